@@ -1,0 +1,4 @@
+pub mod Written
+pub mod IdList
+pub mod Answers
+pub mod Writable

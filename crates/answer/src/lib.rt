@@ -1,0 +1,1 @@
+// The bytes of responses and events: document 01, "Bytes written".

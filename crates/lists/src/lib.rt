@@ -1,0 +1,1 @@
+// Theory alone: lists, for the definitions and proofs of the crates above.

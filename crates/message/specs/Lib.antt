@@ -1,0 +1,5 @@
+pub mod Message
+pub mod StartLines
+pub mod Fields
+pub mod Known
+pub mod Reading

@@ -1,0 +1,1 @@
+// What a byte may be: document 01, "Fields".

@@ -1,0 +1,64 @@
+-- A channel as it is viewed: document 01, "Numbers", "Refusal numbers" (soundness, opening) and "States and queue".
+use Prim.Native.Nat.{ℕ, suc}
+use mathlib.Core.Bool.{Bool, true, false, _&&_, _||_, Bool·beq}
+use mathlib.Core.List.{List, [], map}
+use lib.Dec.{leb}
+use lib.ListN.{length, drop}
+use Rattle.lists.specs.Lists.{run, same, isEmpty, ascends}
+use Rattle.octets.specs.Octets.{bytes, isDigit, isLetter}
+use Rattle.synth.specs.declared.State.{State}
+use Rattle.synth.specs.declared.State.the-variants.{Idle, Speaking, Paused}
+use Rattle.synth.specs.declared.Entry.{Entry}
+use Rattle.synth.specs.declared.LastId.{LastId}
+use Rattle.synth.specs.declared.LastId.the-variants.{NoneSeen, Seen}
+
+-- the outstanding SPEAKs stand in `queue`, the active one first
+pub record View : Type 0 where
+  pub name : List ℕ
+  pub state : State
+  pub queue : List Entry
+  pub last : LastId
+
+-- the only places that spell a whole view: with another state and queue, and with another last id
+abbrev pub withQueue : State → List Entry → View → View
+withQueue state queue v = record { name = v .name; state = state; queue = queue; last = v .last }
+
+abbrev pub withLast : LastId → View → View
+withLast last v = record { name = v .name; state = v .state; queue = v .queue; last = last }
+
+-- an opened channel is idle, with an empty queue and no request seen
+abbrev pub fresh : List ℕ → View
+fresh name = record { name = name; state = Idle; queue = []; last = NoneSeen }
+
+-- a channel name: 1 to 32 ASCII letters or digits, then `@speechsynth`
+unfoldable pub wellNamed : List ℕ → Bool
+wellNamed name =
+    let k : ℕ = run (λ b. isLetter b || isDigit b) name in
+    leb 1 k && leb k 32 && same (drop k name) (bytes "@speechsynth")
+
+abbrev pub ids : List Entry → List ℕ
+ids queue = map (λ (e : Entry). e .id) queue
+
+-- the ids that the channel holds, in queue order
+abbrev pub held : View → List ℕ
+held v = ids (v .queue)
+
+abbrev pub isIdle : State → Bool
+isIdle Idle = true
+isIdle Speaking = false
+isIdle Paused = false
+
+-- the first id above the last one seen; any is above on a fresh channel
+abbrev pub firstAbove : LastId → ℕ
+firstAbove NoneSeen = 0
+firstAbove (Seen id) = suc id
+
+-- Its name is well formed, it is idle exactly when nothing is outstanding, at most 16 are, and their ids rise in queue order with none
+-- above the last seen (none seen: idle), which is a request-id.
+unfoldable pub sound : View → Bool
+sound v =
+    wellNamed (v .name)
+    && Bool·beq (isIdle (v .state)) (isEmpty (v .queue))
+    && leb (length (v .queue)) 16
+    && ascends 0 (held v) (firstAbove (v .last))
+    && leb (firstAbove (v .last)) 4294967296

@@ -1,0 +1,131 @@
+-- The order of judgement for a request, in eleven steps: document 01, "The order of judgement for a request".
+use Prim.Native.Nat.{ℕ}
+use mathlib.Core.Bool.{Bool, true, false, _&&_, _||_, not}
+use mathlib.Core.Option.{Option, none, some}
+use mathlib.Core.List.{List}
+use lib.Dec.{eqb, leb, ltb}
+use lib.ListN.{length}
+use Rattle.lists.specs.Lists.{same, isEmpty}
+use Rattle.octets.specs.Octets.{bytes}
+use Rattle.message.specs.Known.{alike}
+use Rattle.message.specs.Reading.{bodyIn}
+use Rattle.message.specs.declared.Known.the-variants.{ChannelIdentifier, ContentLength, ContentType, ActiveRequestIdList, KillOnBargeIn}
+use Rattle.answer.specs.IdList.{isIdList}
+use Rattle.synth.specs.Channel.{View, isIdle, firstAbove}
+use Rattle.synth.specs.Request.{Request, isSpeak, isGood, acting, ignoresAny}
+use Rattle.synth.specs.declared.Method.{Method}
+
+-- a step passes, or fails with a status
+pub data Verdict : Type 0 where
+  passes : Verdict
+  fails : ℕ → Verdict
+
+infixr 20 _then_
+-- one step, and the next where it passes
+abbrev pub _then_ : Verdict → Verdict → Verdict
+_then_ passes v = v
+_then_ (fails status) v = fails status
+
+abbrev pub unless : Bool → ℕ → Verdict
+unless true status = passes
+unless false status = fails status
+
+-- there is a value, and it passes the test
+abbrev pub given : (List ℕ → Bool) → Option (List ℕ) → Bool
+given test none = false
+given test (some v) = test v
+
+-- it passes the test where there is one
+abbrev pub optional : (List ℕ → Bool) → Option (List ℕ) → Bool
+optional test none = true
+optional test (some v) = test v
+
+abbrev pub anything : List ℕ → Bool
+anything v = true
+
+-- 1. version is not 2.0 (as numbers): 502
+unfoldable pub version : Request → Verdict
+version r = unless (eqb (r .major) 2 && eqb (r .minor) 0) 502
+
+-- 2. malformed field, more than 32, no empty line, a known name twice, or Content-Length different from the body's length: 404
+unfoldable pub wellFormed : Request → Verdict
+wellFormed r = unless (isGood (r .fields)) 404
+
+-- 3. no Channel-Identifier: 406
+unfoldable pub addressed : Request → Verdict
+addressed r = unless (given anything (acting ChannelIdentifier r)) 406
+
+-- 4. it differs from this channel's name in any byte: 405
+unfoldable pub ours : View → Request → Verdict
+ours v r = unless (given (same (v .name)) (acting ChannelIdentifier r)) 405
+
+-- 5. request-id not above the last one seen on this channel (any is above on a fresh channel): 410
+unfoldable pub above : View → Request → Verdict
+above v r = unless (leb (firstAbove (v .last)) (r .id)) 410
+
+-- `true` or `false` in any case
+abbrev pub isFlag : List ℕ → Bool
+isFlag v = alike v (bytes "true") || alike v (bytes "false")
+
+-- 6. an acting field's value is illegal: 404
+unfoldable pub legal : Request → Verdict
+legal r = unless (optional isFlag (acting KillOnBargeIn r) && optional isIdList (acting ActiveRequestIdList r)) 404
+
+abbrev pub isAmongSix : Method → Bool
+isAmongSix Method.Speak = true
+isAmongSix Method.Stop = true
+isAmongSix Method.Pause = true
+isAmongSix Method.Resume = true
+isAmongSix Method.Control = true
+isAmongSix Method.BargeInOccurred = true
+isAmongSix Method.Unknown = false
+
+-- 7. method not among the six: 401
+unfoldable pub amongSix : Request → Verdict
+amongSix r = unless (isAmongSix (r .method)) 401
+
+-- idle: PAUSE, RESUME and CONTROL are not valid
+abbrev pub isValid : Method → Bool → Bool
+isValid Method.Speak idle = true
+isValid Method.Stop idle = true
+isValid Method.Pause idle = not idle
+isValid Method.Resume idle = not idle
+isValid Method.Control idle = not idle
+isValid Method.BargeInOccurred idle = true
+isValid Method.Unknown idle = true
+
+-- 8. method not valid in this state: 402
+unfoldable pub valid : View → Request → Verdict
+valid v r = unless (isValid (r .method) (isIdle (v .state))) 402
+
+-- `text/plain`, `application/ssml+xml`, `text/uri-list` (any case, nothing after)
+abbrev pub isSpeechType : List ℕ → Bool
+isSpeechType t = alike t (bytes "text/plain") || alike t (bytes "application/ssml+xml") || alike t (bytes "text/uri-list")
+
+-- a rule for SPEAK alone
+abbrev pub inSpeak : Request → Verdict → Verdict
+inSpeak r v = elim (isSpeak (r .method)) [ true ↦ v | false ↦ passes ]
+
+-- 9. SPEAK without Content-Length or Content-Type 406; with an empty body 408; with another type 409
+unfoldable pub content : Request → Verdict
+content r =
+    inSpeak r
+    (unless (given anything (acting ContentLength r) && given anything (acting ContentType r)) 406
+    then unless (not (isEmpty (bodyIn (r .fields)))) 408
+    then unless (given isSpeechType (acting ContentType r)) 409)
+
+-- 10. SPEAK with 16 outstanding: 407
+unfoldable pub room : View → Request → Verdict
+room v r = inSpeak r (unless (ltb (length (v .queue)) 16) 407)
+
+-- 11. success: 200, or 201 if a field was ignored
+unfoldable pub success : Request → ℕ
+success r = elim (ignoresAny r) [ true ↦ 201 | false ↦ 200 ]
+
+-- 1 to 5: where one of them fails, the last id seen stays
+unfoldable pub early : View → Request → Verdict
+early v r = version r then wellFormed r then addressed r then ours v r then above v r
+
+-- 6 to 10: the last id seen has become this one, whatever the answer
+unfoldable pub late : View → Request → Verdict
+late v r = legal r then amongSix r then valid v r then content r then room v r

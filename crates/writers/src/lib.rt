@@ -1,0 +1,1 @@
+// Bytes and decimal numbers written into a lent buffer.
