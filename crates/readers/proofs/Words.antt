@@ -1,0 +1,67 @@
+-- Words and lines that were joined come apart again: a line before its CRLF, words between separators, tests of all bytes of a text.
+use Prim.Native.Nat.{ℕ, suc, zero, _+_, _-_, _*_, _≤_}
+use native.Mathlib.Omega.{arith}
+use mathlib.Core.Path.{_≡_, refl, ap, _∙_}
+use mathlib.Core.Bool.{Bool, true, false, not, _&&_, false≢true}
+use mathlib.Core.Option.{some}
+use mathlib.Core.List.{List, [], _∷_, _++_}
+use lib.Dec.{eqb, leb}
+use lib.ListN.{length}
+use borrow.Author.Tests.{eq-eqb, le-leb, not-true}
+use Rattle.lists.specs.Lists.{all, same}
+use Rattle.octets.specs.Octets.{isDigit}
+use Rattle.readers.specs.Words.{line, behind, words, onto, decimal, numberOf, isNumber, isRequestId}
+
+pub both : (a b : Bool) → a && b ≡ true → (a ≡ true) × (b ≡ true)
+both true b e = (refl, e)
+both false b e = absurd (false≢true e)
+
+-- ---- tests of all bytes
+
+pub all-append : (test : ℕ → Bool) (l m : List ℕ) → all test l ≡ true → all test m ≡ true → all test (l ++ m) ≡ true
+all-append test [] m a b = b
+all-append test (x ∷ l) m a b = let h = both (test x) (all test l) a in rw (h .0) (all-append test l m (h .1) b)
+
+pub all-of : (test other : ℕ → Bool) → ((x : ℕ) → test x ≡ true → other x ≡ true) → (l : List ℕ) → all test l ≡ true → all other l ≡ true
+all-of test other f [] a = refl
+all-of test other f (x ∷ l) a = let h = both (test x) (all test l) a in rw (f x (h .0)) (all-of test other f l (h .1))
+
+-- the byte b is not in the text
+abbrev pub lacks : ℕ → List ℕ → Bool
+lacks b l = all (λ x. not (eqb x b)) l
+
+pub same-self : (l : List ℕ) → same l l ≡ true
+same-self [] = refl
+same-self (x ∷ l) = rw (eq-eqb x x refl) (same-self l)
+
+-- ---- lines and words
+
+pub line-of : (l v : List ℕ) → lacks 13 l ≡ true → line (l ++ 13 ∷ 10 ∷ v) ≡ some l
+line-of [] v a = refl
+line-of (x ∷ l) v a =
+    let h = both (not (eqb x 13)) (lacks 13 l) a in
+    rw (not-true (eqb x 13) (h .0), line) (ap (behind x) (line-of l v (h .1)))
+
+pub words-last : (b : ℕ) (w : List ℕ) → lacks b w ≡ true → words b w ≡ w ∷ []
+words-last b [] a = refl
+words-last b (x ∷ w) a =
+    let h = both (not (eqb x b)) (lacks b w) a in
+    rw (not-true (eqb x b) (h .0), words) (ap (onto x) (words-last b w (h .1)))
+
+pub words-more : (b : ℕ) (w v : List ℕ) → lacks b w ≡ true → words b (w ++ b ∷ v) ≡ w ∷ words b v
+words-more b [] v a = rw (eq-eqb b b refl, words)
+words-more b (x ∷ w) v a =
+    let h = both (not (eqb x b)) (lacks b w) a in
+    rw (not-true (eqb x b) (h .0), words) (ap (onto x) (words-more b w v (h .1)))
+
+-- ---- numbers
+
+pub decimal-append : (v : ℕ) (l m : List ℕ) → decimal v (l ++ m) ≡ decimal (decimal v l) m
+decimal-append v [] m = refl
+decimal-append v (x ∷ l) m = decimal-append (v * 10 + (x - 48)) l m
+
+pub number-fits : (max : ℕ) (w : List ℕ) → 1 ≤ length w → length w ≤ max → all isDigit w ≡ true → isNumber max w ≡ true
+number-fits max w few most a = rw (le-leb 1 (length w) few, le-leb (length w) max most) a
+
+pub id-fits : (w : List ℕ) → isNumber 10 w ≡ true → numberOf w ≤ 4294967295 → isRequestId w ≡ true
+id-fits w a h = rw a (le-leb (numberOf w) 4294967295 h)
