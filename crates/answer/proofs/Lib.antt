@@ -1,0 +1,2 @@
+pub mod IdLists
+pub mod Theorems

@@ -1,13 +1,13 @@
 -- Words and lines that were joined come apart again: a line before its CRLF, words between separators, tests of all bytes of a text.
 use Prim.Native.Nat.{ℕ, suc, zero, _+_, _-_, _*_, _≤_}
 use native.Mathlib.Omega.{arith}
-use mathlib.Core.Path.{_≡_, refl, ap, _∙_}
+use mathlib.Core.Path.{_≡_, refl, sym, ap, _∙_}
 use mathlib.Core.Bool.{Bool, true, false, not, _&&_, false≢true}
 use mathlib.Core.Option.{some}
 use mathlib.Core.List.{List, [], _∷_, _++_}
 use lib.Dec.{eqb, leb}
 use lib.ListN.{length}
-use borrow.Author.Tests.{eq-eqb, le-leb, not-true}
+use borrow.Author.Tests.{eq-eqb, ne-eqb, le-leb, not-true}
 use Rattle.lists.specs.Lists.{all, same}
 use Rattle.octets.specs.Octets.{isDigit}
 use Rattle.readers.specs.Words.{line, behind, words, onto, decimal, numberOf, isNumber, isRequestId}
@@ -22,13 +22,16 @@ pub all-append : (test : ℕ → Bool) (l m : List ℕ) → all test l ≡ true 
 all-append test [] m a b = b
 all-append test (x ∷ l) m a b = let h = both (test x) (all test l) a in rw (h .0) (all-append test l m (h .1) b)
 
-pub all-of : (test other : ℕ → Bool) → ((x : ℕ) → test x ≡ true → other x ≡ true) → (l : List ℕ) → all test l ≡ true → all other l ≡ true
-all-of test other f [] a = refl
-all-of test other f (x ∷ l) a = let h = both (test x) (all test l) a in rw (f x (h .0)) (all-of test other f l (h .1))
-
 -- the byte b is not in the text
 abbrev pub lacks : ℕ → List ℕ → Bool
 lacks b l = all (λ x. not (eqb x b)) l
+
+-- nor is it where each byte passes a test that b does not pass
+pub lacks-of : (test : ℕ → Bool) (b : ℕ) (l : List ℕ) → test b ≡ false → all test l ≡ true → lacks b l ≡ true
+lacks-of test b [] e a = refl
+lacks-of test b (x ∷ l) e a =
+    let h = both (test x) (all test l) a in
+    rw (ne-eqb x b (λ q. false≢true (sym e ∙ ap test (sym q) ∙ h .0))) (lacks-of test b l e (h .1))
 
 pub same-self : (l : List ℕ) → same l l ≡ true
 same-self [] = refl
