@@ -1,1 +1,3 @@
 pub mod IdListReadBack
+pub mod ReadBack
+pub mod ListsReadBack

@@ -8,7 +8,7 @@ use mathlib.Core.List.{List, [], _∷_, _++_}
 use lib.Dec.{eqb, leb}
 use lib.ListN.{length}
 use borrow.Author.Tests.{eq-eqb, ne-eqb, le-leb, not-true}
-use Rattle.lists.specs.Lists.{all, same}
+use Rattle.lists.specs.Lists.{all, run, same}
 use Rattle.octets.specs.Octets.{isDigit}
 use Rattle.readers.specs.Words.{line, behind, words, onto, decimal, numberOf, isNumber, isRequestId}
 
@@ -26,6 +26,9 @@ all-append test (x ∷ l) m a b = let h = both (test x) (all test l) a in rw (h 
 abbrev pub lacks : ℕ → List ℕ → Bool
 lacks b l = all (λ x. not (eqb x b)) l
 
+pub lacks-append : (b : ℕ) (l m : List ℕ) → lacks b l ≡ true → lacks b m ≡ true → lacks b (l ++ m) ≡ true
+lacks-append b l m = all-append (λ x. not (eqb x b)) l m
+
 -- nor is it where each byte passes a test that b does not pass
 pub lacks-of : (test : ℕ → Bool) (b : ℕ) (l : List ℕ) → test b ≡ false → all test l ≡ true → lacks b l ≡ true
 lacks-of test b [] e a = refl
@@ -36,6 +39,10 @@ lacks-of test b (x ∷ l) e a =
 pub same-self : (l : List ℕ) → same l l ≡ true
 same-self [] = refl
 same-self (x ∷ l) = rw (eq-eqb x x refl) (same-self l)
+
+pub run-to : (test : ℕ → Bool) (l : List ℕ) (x : ℕ) (v : List ℕ) → all test l ≡ true → test x ≡ false → run test (l ++ x ∷ v) ≡ length l
+run-to test [] x v a e = rw (e, run)
+run-to test (y ∷ l) x v a e = let h = both (test y) (all test l) a in rw (h .0, run) (ap suc (run-to test l x v (h .1) e))
 
 -- ---- lines and words
 

@@ -1,0 +1,84 @@
+-- Written field lines read as their fields, up to the empty line.
+use Prim.Native.Nat.{ℕ, zero, suc, _+_, _≤_}
+use native.Mathlib.Nat.{add-zero, add-assoc, le-of-suc-le-suc, not-suc-le-zero}
+use native.Mathlib.Omega.{arith}
+use mathlib.Core.Path.{_≡_, refl, sym, ap, ap₂, _∙_}
+use mathlib.Core.Bool.{Bool, true, false, not, _&&_}
+use mathlib.Core.Option.{some}
+use mathlib.Core.List.{List, [], _∷_, _++_, append-assoc}
+use lib.Dec.{eqb, leb, ltb}
+use lib.ListN.{length, take, drop, length-append}
+use lib.Seq.{take-append-seam}
+use borrow.Author.Tests.{lt-ltb, le-leb}
+use Rattle.lists.specs.Lists.{all, run, All}
+use Rattle.octets.specs.Octets.{isName, isValue, isBlank}
+use Rattle.readers.specs.Words.{line}
+use Rattle.readers.proofs.Words.{lacks, lacks-append, lacks-of, line-of, run-to}
+use Rattle.message.specs.Message.{Field}
+use Rattle.message.specs.Fields.{trimEnd, trimmed, field, empty, isPlain, fieldAt, lineAt, fieldLine, lines, with, goOn, fieldLines}
+use Rattle.answer.specs.Written.{fieldText, fieldsText}
+use Rattle.answer.specs.Writable.{FieldFits}
+use Rattle.answer.proofs.Places.{past, fieldPlaces, fieldsPlaces, field-text}
+
+drop-past : (l : List ℕ) (x : ℕ) (v : List ℕ) → drop (suc (length l)) (l ++ x ∷ v) ≡ v
+drop-past [] x v = refl
+drop-past (y ∷ l) x v = drop-past l x v
+
+-- the value of a field has no blank to trim
+untrimmed : (at : ℕ) (v : List ℕ) → run isBlank v ≡ 0 → trimEnd v ≡ v → trimmed at v ≡ record { start = at; len = length v }
+untrimmed at v e f = rw (e, add-zero) (rw f)
+
+line-at : (at : ℕ) (l : List ℕ) → 1 ≤ length l → lineAt at (some l) ≡ fieldAt at (run isPlain l) l
+line-at at [] h = absurd (not-suc-le-zero h)
+line-at at (x ∷ l) h = refl
+
+module _ (at : ℕ) (f : Field (List ℕ)) (h : FieldFits f) where
+  -- the line without its CRLF
+  abbrev theLine : List ℕ
+  theLine = f .name ++ 58 ∷ f .value
+
+  line-length : length theLine ≡ length (f .name) + suc (length (f .value))
+  line-length = length-append (f .name) (58 ∷ f .value)
+
+  text-length : length (fieldText f) ≡ length theLine + 2
+  unfolding fieldText
+  text-length = simp length-append (omega arith)
+
+  one-line : lacks 13 theLine ≡ true
+  one-line =
+      lacks-append 13 (f .name) (58 ∷ f .value) (lacks-of isName 13 (f .name) refl (h .names)) (lacks-of isValue 13 (f .value) refl (h .values))
+
+  is-field : fieldAt at (length (f .name)) theLine ≡ field (fieldPlaces at f) (at + length theLine + 2)
+  is-field =
+      rw (
+        lt-ltb (length (f .name)) (length theLine) (omega (arith, line-length)),
+        le-leb 1 (length (f .name)) (h .some),
+        le-leb (length (f .name)) 64 (h .most),
+        take-append-seam (f .name) (58 ∷ f .value),
+        drop-past (f .name) 58 (f .value),
+        h .names,
+        h .values,
+        fieldAt,
+      ) (rw (drop-past (f .name) 58 (f .value), untrimmed (at + length (f .name) + 1) (f .value) (h .front) (h .end)))
+
+  field-line : (v : List ℕ) → fieldLine at (fieldText f ++ v) ≡ field (fieldPlaces at f) (at + length (fieldText f))
+  unfolding fieldLine
+  field-line v =
+      ap (λ l. lineAt at (line l)) (field-text f v ∙ sym (append-assoc (f .name) (58 ∷ f .value) (13 ∷ 10 ∷ v)))
+      ∙ ap (lineAt at) (line-of theLine v one-line)
+      ∙ line-at at theLine (omega (arith, line-length))
+      ∙ ap (λ k. fieldAt at k theLine) (run-to isPlain (f .name) 58 (f .value) (lacks-of isName 58 (f .name) refl (h .names)) refl)
+      ∙ is-field
+      ∙ ap (field (fieldPlaces at f)) (omega (arith, text-length))
+
+pub fields-read : (n : ℕ) (s : List ℕ) (at : ℕ) (fs : List (Field (List ℕ))) (v : List ℕ) → length fs ≤ n → All FieldFits fs
+    → drop at s ≡ fieldsText fs ++ 13 ∷ 10 ∷ v → fieldLines n s at ≡ lines (fieldsPlaces at fs) (at + length (fieldsText fs) + 2)
+unfolding fieldsText fieldLine
+fields-read zero s at [] v l h e = rw (e, add-zero)
+fields-read (suc n) s at [] v l h e = rw (e, add-zero)
+fields-read zero s at (f ∷ fs) v l h e = absurd (not-suc-le-zero l)
+fields-read (suc n) s at (f ∷ fs) v l h e =
+    let g : drop at s ≡ fieldText f ++ (fieldsText fs ++ 13 ∷ 10 ∷ v) = e ∙ append-assoc (fieldText f) (fieldsText fs) (13 ∷ 10 ∷ v) in
+    let next : ℕ = at + length (fieldText f) in
+    let more = fields-read n s next fs v (le-of-suc-le-suc l) (h .1) (past s at (fieldText f) (fieldsText fs ++ 13 ∷ 10 ∷ v) g) in
+    rw (g, field-line at f (h .0) (fieldsText fs ++ 13 ∷ 10 ∷ v)) (rw (more, length-append (fieldText f) (fieldsText fs), ← add-assoc))

@@ -1,0 +1,84 @@
+-- A writable message, written at the front of lent bytes, reads as the places of its parts, and its parts stand there.
+use Prim.Native.Nat.{ℕ, _+_, _-_}
+use mathlib.Core.Path.{_≡_, refl, sym, ap, _∙_}
+use mathlib.Core.Bool.{true, false, _&&_}
+use mathlib.Core.List.{List, [], _∷_, _++_, map, append-nil}
+use lib.ListN.{length, take, drop, length-drop}
+use lib.Seq.{take-append-seam}
+use Rattle.framing.specs.Framing.{opening, framing}
+use Rattle.message.specs.Message.{Field, good, Head, Reading, refused, message, Message, part, onStart, onField, onReading}
+use Rattle.message.specs.StartLines.{startLine, started}
+use Rattle.message.specs.Fields.{fieldLines, lines}
+use Rattle.message.specs.Known.{onceEach, namesOf, valueOf}
+use Rattle.message.specs.Reading.{agrees, judged, fieldsFrom, readFrom, readFramed, reading, heard}
+use Rattle.message.specs.declared.Span.{Span}
+use Rattle.message.specs.declared.Known.the-variants.{ContentLength}
+use Rattle.answer.specs.Written.{startText, fieldsText, written}
+use Rattle.answer.specs.Writable.{Writable}
+use Rattle.answer.proofs.Places.{past, part-of, startPlaces, start-back, fieldsPlaces, fields-back}
+use Rattle.answer.proofs.StartLines.{start-read}
+use Rattle.answer.proofs.FieldLines.{fields-read}
+use Rattle.answer.proofs.Frames.{opens, follows, opened, frame}
+
+-- no bytes are a proper beginning of an opening
+pub nothing-heard : heard [] ≡ refused 1 0
+unfolding heard reading framing opening
+nothing-heard = refl
+
+-- judgement 2 passes what keeps its rules
+judged-good : (f : List ℕ) (fs : List (Field Span)) (b : ℕ) (texts : List (Field (List ℕ))) (n : ℕ)
+    → map (onField (part f)) fs ≡ texts → length f - b ≡ n → onceEach (namesOf texts) ≡ true → agrees (valueOf ContentLength texts) n ≡ true
+    → judged f (lines fs b) ≡ good fs (record { start = b; len = n })
+judged-good f fs b texts n e l once fits = rw (e, l, once, fits, judged) (rw l)
+
+module _ (m : Message) where
+  -- where the fields begin, and the body
+  abbrev fieldsAt : ℕ
+  fieldsAt = opens m + length (startText (m .start)) + 2
+
+  abbrev bodyAt : ℕ
+  bodyAt = fieldsAt + length (fieldsText (m .fields)) + 2
+
+  -- what stands there in the frame, and in the lent bytes
+  module _ (s rest : List ℕ) (e : drop (opens m) s ≡ follows m rest) where
+    at-fields : drop fieldsAt s ≡ fieldsText (m .fields) ++ 13 ∷ 10 ∷ (m .body ++ rest)
+    at-fields = past s (opens m + length (startText (m .start))) (13 ∷ 10 ∷ []) _ (past s (opens m) (startText (m .start)) _ e)
+
+    at-body : drop bodyAt s ≡ m .body ++ rest
+    at-body = past s (fieldsAt + length (fieldsText (m .fields))) (13 ∷ 10 ∷ []) _ (past s fieldsAt (fieldsText (m .fields)) _ at-fields)
+
+  alone : drop (opens m) (written m) ≡ follows m []
+  alone = ap (drop (opens m)) (sym (append-nil (written m))) ∙ opened m []
+
+  body-length : length (written m) - bodyAt ≡ length (m .body)
+  body-length = sym (length-drop bodyAt (written m)) ∙ ap length (at-body (written m) [] alone ∙ append-nil (m .body))
+
+  abbrev bodyPlace : Span
+  bodyPlace = record { start = bodyAt; len = length (m .body) }
+
+  fields-from : Writable m → fieldsFrom (written m) fieldsAt ≡ good (fieldsPlaces fieldsAt (m .fields)) bodyPlace
+  unfolding fieldsFrom
+  fields-from w =
+      let e = at-fields (written m) [] alone in
+      ap (judged (written m)) (fields-read 32 (written m) fieldsAt (m .fields) (m .body ++ []) (w .few) (w .fields) e)
+      ∙ judged-good (written m) (fieldsPlaces fieldsAt (m .fields)) bodyAt (m .fields) (length (m .body)) (fields-back (written m) fieldsAt (m .fields) _ e)
+      body-length (w .once) (w .length-agrees)
+
+  abbrev pub head : Head
+  head = record { stated = length (written m); major = 2; minor = 0 }
+
+  read-places : (rest : List ℕ) → Writable m
+      → reading (written m ++ rest) ≡ message head (startPlaces (opens m) (m .start)) (good (fieldsPlaces fieldsAt (m .fields)) bodyPlace)
+  unfolding reading
+  read-places rest w =
+      ap (readFramed (written m ++ rest)) (frame m rest (w .fits))
+      ∙ rw (take-append-seam (written m) rest, start-read (written m) (opens m) (m .start) _ (w .start) alone, fields-from w)
+
+  pub parts-stand : (rest : List ℕ) → Writable m → heard (written m ++ rest) ≡ message head (m .start) (good (m .fields) (m .body))
+  unfolding heard
+  parts-stand rest w =
+      let s : List ℕ = written m ++ rest in
+      let start = start-back s (opens m) (m .start) _ (opened m rest) in
+      let fields = fields-back s fieldsAt (m .fields) _ (at-fields s rest (opened m rest)) in
+      let body = part-of s bodyAt (m .body) rest (at-body s rest (opened m rest)) in
+      ap (onReading (part s)) (read-places rest w) ∙ λ i. message head (start i) (good (fields i) (body i))
