@@ -4,4 +4,7 @@ pub mod StartLines
 pub mod FieldLines
 pub mod Frames
 pub mod Reading
+pub mod Values
+pub mod Sizes
+pub mod Answers
 pub mod Theorems

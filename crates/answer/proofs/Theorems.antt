@@ -1,3 +1,5 @@
 pub mod IdListReadBack
 pub mod ReadBack
 pub mod ListsReadBack
+pub mod AnswersWritable
+pub mod LongestAnswer

@@ -22,6 +22,10 @@ pub all-append : (test : ℕ → Bool) (l m : List ℕ) → all test l ≡ true 
 all-append test [] m a b = b
 all-append test (x ∷ l) m a b = let h = both (test x) (all test l) a in rw (h .0) (all-append test l m (h .1) b)
 
+pub all-of : (test other : ℕ → Bool) → ((x : ℕ) → test x ≡ true → other x ≡ true) → (l : List ℕ) → all test l ≡ true → all other l ≡ true
+all-of test other f [] a = refl
+all-of test other f (x ∷ l) a = let h = both (test x) (all test l) a in rw (f x (h .0)) (all-of test other f l (h .1))
+
 -- the byte b is not in the text
 abbrev pub lacks : ℕ → List ℕ → Bool
 lacks b l = all (λ x. not (eqb x b)) l

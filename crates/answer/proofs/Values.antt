@@ -1,0 +1,90 @@
+-- Values of fields that need no trimming: texts of visible bytes, lists of ids, and completion causes.
+use Prim.Native.Nat.{ℕ, zero, suc, _≤_}
+use native.Mathlib.Omega.{arith}
+use mathlib.Core.Path.{_≡_, refl, ap, _∙_}
+use mathlib.Core.Bool.{Bool, true, false, _&&_, _||_}
+use mathlib.Core.List.{List, [], _∷_, _++_}
+use lib.Dec.{leb, eqb, lit≤}
+use lib.ListN.{length}
+use borrow.Author.Tests.{leb-true, le-leb, ne-eqb}
+use Rattle.lists.specs.Lists.{all, run}
+use Rattle.octets.specs.Octets.{within, isDigit, isValue, isBlank}
+use Rattle.readers.proofs.Words.{both, all-append, all-of}
+use Rattle.writers.specs.Decimal.{digits, threeDigits}
+use Rattle.writers.proofs.Digits.{digits-all}
+use Rattle.message.specs.Message.{Field}
+use Rattle.message.specs.Fields.{kept, trimEnd}
+use Rattle.answer.specs.IdList.{behindCommas, idListText}
+use Rattle.answer.specs.Answers.{completionCause}
+
+pub record ValueFits (v : List ℕ) : Type 0 where
+  pub values : all isValue v ≡ true
+  pub front : run isBlank v ≡ 0
+  pub end : trimEnd v ≡ v
+
+-- a byte that prints: 33 to 126
+abbrev pub isVisible : ℕ → Bool
+isVisible x = within 33 126 x
+
+no-blank : (x : ℕ) → isVisible x ≡ true → isBlank x ≡ false
+no-blank x e =
+    let low : 33 ≤ x = leb-true 33 x (both (leb 33 x) (leb x 126) e .0) in
+    rw (ne-eqb x 32 (omega arith), ne-eqb x 9 (omega arith))
+
+a-value : (x : ℕ) → isVisible x ≡ true → isValue x ≡ true
+a-value x e =
+    let h = both (leb 33 x) (leb x 126) e in
+    let low : 33 ≤ x = leb-true 33 x (h .0) in
+    rw (le-leb 32 x (omega arith), h .1)
+
+kept-visible : (x : ℕ) (l : List ℕ) → isBlank x ≡ false → kept x l ≡ x ∷ l
+kept-visible x [] e = rw (e, kept)
+kept-visible x (y ∷ l) e = refl
+
+visible-front : (v : List ℕ) → all isVisible v ≡ true → run isBlank v ≡ 0
+visible-front [] a = refl
+visible-front (x ∷ v) a = rw (no-blank x (both (isVisible x) (all isVisible v) a .0), run)
+
+visible-end : (v : List ℕ) → all isVisible v ≡ true → trimEnd v ≡ v
+visible-end [] a = refl
+visible-end (x ∷ v) a =
+    let h = both (isVisible x) (all isVisible v) a in
+    ap (kept x) (visible-end v (h .1)) ∙ kept-visible x v (no-blank x (h .0))
+
+pub visible : (v : List ℕ) → all isVisible v ≡ true → ValueFits v
+visible v a = record { values = all-of isVisible isValue a-value v a; front = visible-front v a; end = visible-end v a }
+
+-- ---- lists of ids
+
+digit-visible : (x : ℕ) → isDigit x ≡ true → isVisible x ≡ true
+digit-visible x e =
+    let h = both (leb 48 x) (leb x 57) e in
+    let low : 48 ≤ x = leb-true 48 x (h .0) in
+    let high : x ≤ 57 = leb-true x 57 (h .1) in
+    rw (le-leb 33 x (omega arith), le-leb x 126 (omega arith))
+
+digits-visible : (n : ℕ) → all isVisible (digits n) ≡ true
+digits-visible n = all-of isDigit isVisible digit-visible (digits n) (digits-all n)
+
+commas-visible : (is : List ℕ) → all isVisible (behindCommas is) ≡ true
+unfolding behindCommas
+commas-visible [] = refl
+commas-visible (i ∷ is) = all-append isVisible (digits i) (behindCommas is) (digits-visible i) (commas-visible is)
+
+pub list-visible : (i : ℕ) (is : List ℕ) → all isVisible (idListText (i ∷ is)) ≡ true
+unfolding idListText
+list-visible i is = all-append isVisible (digits i) (behindCommas is) (digits-visible i) (commas-visible is)
+
+-- ---- causes 0 to 7
+
+pub cause-fits : (cause : ℕ) → cause ≤ 7 → ValueFits (completionCause cause .value) × (length (completionCause cause .value) ≤ 24)
+unfolding threeDigits
+cause-fits zero h = (record { values = refl; front = refl; end = refl }, lit≤ tt)
+cause-fits (suc zero) h = (record { values = refl; front = refl; end = refl }, lit≤ tt)
+cause-fits (suc (suc zero)) h = (record { values = refl; front = refl; end = refl }, lit≤ tt)
+cause-fits (suc (suc (suc zero))) h = (record { values = refl; front = refl; end = refl }, lit≤ tt)
+cause-fits (suc (suc (suc (suc zero)))) h = (record { values = refl; front = refl; end = refl }, lit≤ tt)
+cause-fits (suc (suc (suc (suc (suc zero))))) h = (record { values = refl; front = refl; end = refl }, lit≤ tt)
+cause-fits (suc (suc (suc (suc (suc (suc zero)))))) h = (record { values = refl; front = refl; end = refl }, lit≤ tt)
+cause-fits (suc (suc (suc (suc (suc (suc (suc zero))))))) h = (record { values = refl; front = refl; end = refl }, lit≤ tt)
+cause-fits (suc (suc (suc (suc (suc (suc (suc (suc n)))))))) h = absurd (omega arith)
