@@ -2,23 +2,23 @@
 use Prim.Native.Nat.{ℕ, _≤_}
 use mathlib.Core.Path.{_≡_, refl}
 use mathlib.Core.Bool.{true}
-use mathlib.Core.Option.{none, some}
+use mathlib.Core.Option.{none}
 use mathlib.Core.List.{List, [], _∷_}
 use lib.Dec.{lit≤}
 use lib.ListN.{length}
-use Rattle.lists.specs.Lists.{all, run, All}
-use Rattle.octets.specs.Octets.{isName, isValue, isBlank}
+use Rattle.lists.specs.Lists.{all, All}
+use Rattle.octets.specs.Octets.{isName}
 use Rattle.message.specs.Message.{Field}
-use Rattle.message.specs.Fields.{trimEnd}
 use Rattle.message.specs.Known.{knownOf, onceEach, namesOf, valueOf}
-use Rattle.message.specs.declared.Known.the-variants.{ContentLength, ActiveRequestIdList}
+use Rattle.message.specs.declared.Known.the-variants.{ContentLength}
 use Rattle.answer.specs.IdList.{idListText}
 use Rattle.answer.specs.Answers.{channelIdentifier, activeRequestIdList, completionCause}
 use Rattle.answer.specs.Writable.{FieldFits}
 use Rattle.answer.proofs.Values.{ValueFits, visible, list-visible}
 
 -- a field with a fixed name
-pub field-fits : (f : Field (List ℕ)) → 1 ≤ length (f .name) → length (f .name) ≤ 64 → all isName (f .name) ≡ true → ValueFits (f .value) → FieldFits f
+pub field-fits : (f : Field (List ℕ)) → 1 ≤ length (f .name) → length (f .name) ≤ 64 → all isName (f .name) ≡ true → ValueFits (f .value)
+    → FieldFits f
 field-fits f few most names v = record { some = few; most = most; names = names; values = v .values; front = v .front; end = v .end }
 
 pub name-fits : (name : List ℕ) → ValueFits name → FieldFits (channelIdentifier name)

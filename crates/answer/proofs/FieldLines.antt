@@ -2,23 +2,22 @@
 use Prim.Native.Nat.{ℕ, zero, suc, _+_, _≤_}
 use native.Mathlib.Nat.{add-zero, add-assoc, le-of-suc-le-suc, not-suc-le-zero}
 use native.Mathlib.Omega.{arith}
-use mathlib.Core.Path.{_≡_, refl, sym, ap, ap₂, _∙_}
-use mathlib.Core.Bool.{Bool, true, false, not, _&&_}
+use mathlib.Core.Path.{_≡_, refl, sym, ap, _∙_}
+use mathlib.Core.Bool.{true}
 use mathlib.Core.Option.{some}
 use mathlib.Core.List.{List, [], _∷_, _++_, append-assoc}
-use lib.Dec.{eqb, leb, ltb}
-use lib.ListN.{length, take, drop, length-append}
+use lib.ListN.{length, drop, length-append}
 use lib.Seq.{take-append-seam}
 use borrow.Author.Tests.{lt-ltb, le-leb}
-use Rattle.lists.specs.Lists.{all, run, All}
+use Rattle.lists.specs.Lists.{run, All}
 use Rattle.octets.specs.Octets.{isName, isValue, isBlank}
 use Rattle.readers.specs.Words.{line}
 use Rattle.readers.proofs.Words.{lacks, lacks-append, lacks-of, line-of, run-to}
 use Rattle.message.specs.Message.{Field}
-use Rattle.message.specs.Fields.{trimEnd, trimmed, field, empty, isPlain, fieldAt, lineAt, fieldLine, lines, with, goOn, fieldLines}
+use Rattle.message.specs.Fields.{trimEnd, trimmed, field, isPlain, fieldAt, lineAt, fieldLine, lines, fieldLines}
 use Rattle.answer.specs.Written.{fieldText, fieldsText}
 use Rattle.answer.specs.Writable.{FieldFits}
-use Rattle.answer.proofs.Places.{past, fieldPlaces, fieldsPlaces, field-text}
+use Rattle.answer.proofs.Places.{past, fieldPlaces, fieldsPlaces, field-text, field-size}
 
 drop-past : (l : List ℕ) (x : ℕ) (v : List ℕ) → drop (suc (length l)) (l ++ x ∷ v) ≡ v
 drop-past [] x v = refl
@@ -39,10 +38,6 @@ module _ (at : ℕ) (f : Field (List ℕ)) (h : FieldFits f) where
 
   line-length : length theLine ≡ length (f .name) + suc (length (f .value))
   line-length = length-append (f .name) (58 ∷ f .value)
-
-  text-length : length (fieldText f) ≡ length theLine + 2
-  unfolding fieldText
-  text-length = simp length-append (omega arith)
 
   one-line : lacks 13 theLine ≡ true
   one-line =
@@ -69,7 +64,7 @@ module _ (at : ℕ) (f : Field (List ℕ)) (h : FieldFits f) where
       ∙ line-at at theLine (omega (arith, line-length))
       ∙ ap (λ k. fieldAt at k theLine) (run-to isPlain (f .name) 58 (f .value) (lacks-of isName 58 (f .name) refl (h .names)) refl)
       ∙ is-field
-      ∙ ap (field (fieldPlaces at f)) (omega (arith, text-length))
+      ∙ ap (field (fieldPlaces at f)) (omega (arith, line-length, field-size f))
 
 pub fields-read : (n : ℕ) (s : List ℕ) (at : ℕ) (fs : List (Field (List ℕ))) (v : List ℕ) → length fs ≤ n → All FieldFits fs
     → drop at s ≡ fieldsText fs ++ 13 ∷ 10 ∷ v → fieldLines n s at ≡ lines (fieldsPlaces at fs) (at + length (fieldsText fs) + 2)

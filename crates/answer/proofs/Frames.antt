@@ -1,15 +1,13 @@
 -- A written message at the front of lent bytes: its stated length is its own, and it is the frame.
-use Prim.Native.Nat.{ℕ, _+_, _≤_, _<_}
+use Prim.Native.Nat.{ℕ, _+_, _≤_}
 use native.Mathlib.Omega.{arith}
 use mathlib.Core.Path.{_≡_, refl, sym, ap, _∙_}
-use mathlib.Core.Bool.{true, false}
-use mathlib.Core.List.{List, [], _∷_, _++_, append-assoc}
-use lib.Dec.{ltb}
+use mathlib.Core.List.{List, _∷_, _++_, append-assoc}
 use lib.ListN.{length, drop, length-append}
 use lib.Seq.{drop-append-seam}
 use borrow.Author.Tests.{le-ltb}
 use Rattle.octets.specs.Octets.{bytes, crlf}
-use Rattle.readers.specs.Readers.{got, next, number}
+use Rattle.readers.specs.Readers.{got, number}
 use Rattle.readers.proofs.WrittenNumbers.{number-read}
 use Rattle.writers.specs.Decimal.{digits, width}
 use Rattle.writers.specs.SelfLength.{selfLength}
@@ -31,7 +29,9 @@ number-written n v h = rw (number-read 32 refl v 18 (digits n) (width-pos n) h (
 opening-read : (n : ℕ) (v : List ℕ) → width n ≤ 19
     → opening (bytes "MRCP/2.0 " ++ (digits n ++ 32 ∷ v)) ≡ got (record { major = 2; minor = 0; stated = n }) (9 + width n + 1)
 unfolding opening
-opening-read n v h = rw (number-written n v h) (rw (drop-append-seam (digits n) (32 ∷ v)) (ap (got (record { major = 2; minor = 0; stated = n })) (omega arith)))
+opening-read n v h =
+    rw (number-written n v h)
+    (rw (drop-append-seam (digits n) (32 ∷ v)) (ap (got (record { major = 2; minor = 0; stated = n })) (omega arith)))
 
 measured-frame : (n k lent : ℕ) → n ≤ 16384 → k ≤ n → n ≤ lent → measured (record { major = 2; minor = 0; stated = n }) k lent ≡ Frame 2 0 k n
 measured-frame n k lent a b c = rw (le-ltb 16384 n a, le-ltb n k b, le-ltb lent n c, measured)
@@ -77,7 +77,9 @@ module _ (m : Message) where
   pub frame : (rest : List ℕ) → length (written m) ≤ 16384 → framing (written m ++ rest) ≡ Frame 2 0 opens (length (written m))
   unfolding framing
   frame rest h =
-      let w : width size ≤ 19 = width-below size 18 (omega (arith, written-length)) in
-      let lent : ℕ = length (written m ++ rest) in
-      let e : opening (written m ++ rest) ≡ got (record { major = 2; minor = 0; stated = size }) opens = ap opening (written-is rest) ∙ opening-read size (follows rest) w in
-      rw (e, measured-frame size opens lent (omega (arith, written-length)) opens-within (omega (arith, written-length, length-append (written m) rest)), written-length)
+      let s : List ℕ = written m ++ rest in
+      let few : size ≤ 16384 = omega (arith, written-length) in
+      let there : size ≤ length s = omega (arith, written-length, length-append (written m) rest) in
+      ap (λ r. framed r (length s)) (ap opening (written-is rest) ∙ opening-read size (follows rest) (width-below size 18 (omega arith)))
+      ∙ measured-frame size opens (length s) few opens-within there
+      ∙ ap (Frame 2 0 opens) (sym written-length)

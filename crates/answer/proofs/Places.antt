@@ -25,7 +25,7 @@ startPlaces at (request name id) = request (record { start = at; len = length na
 startPlaces at (response id status state) = response id status state
 startPlaces at (event name id state) = event (record { start = at; len = length name }) id state
 
--- over variables: at literal texts `_++_` computes, and no rule finds it
+-- over variables: at literal texts `_++_` computes, and `simp` finds no append
 three-words : (a x b y c : List ℕ) → a ++ x ++ b ++ y ++ c ≡ a ++ (x ++ (b ++ (y ++ c)))
 three-words a x b y c = simp append-assoc
 
@@ -34,11 +34,13 @@ pub request-text : (name : List ℕ) (id : ℕ) → startText (request name id) 
 unfolding startText
 request-text name id = append-assoc name (bytes " ") (digits id)
 
-pub response-text : (id status : ℕ) (state : RequestState) → startText (response id status state) ≡ digits id ++ 32 ∷ (threeDigits status ++ 32 ∷ stateText state)
+pub response-text : (id status : ℕ) (state : RequestState)
+    → startText (response id status state) ≡ digits id ++ 32 ∷ (threeDigits status ++ 32 ∷ stateText state)
 unfolding startText
 response-text id status state = three-words (digits id) (bytes " ") (threeDigits status) (bytes " ") (stateText state)
 
-pub event-text : (name : List ℕ) (id : ℕ) (state : RequestState) → startText (event name id state) ≡ name ++ 32 ∷ (digits id ++ 32 ∷ stateText state)
+pub event-text : (name : List ℕ) (id : ℕ) (state : RequestState)
+    → startText (event name id state) ≡ name ++ 32 ∷ (digits id ++ 32 ∷ stateText state)
 unfolding startText
 event-text name id state = three-words name (bytes " ") (digits id) (bytes " ") (stateText state)
 
@@ -46,8 +48,13 @@ pub field-text : (f : Field (List ℕ)) (v : List ℕ) → fieldText f ++ v ≡ 
 unfolding fieldText
 field-text f v = three-words (f .name) (bytes ":") (f .value) crlf v
 
+pub field-size : (f : Field (List ℕ)) → length (fieldText f) ≡ 3 + length (f .name) + length (f .value)
+unfolding fieldText
+field-size f = simp length-append (omega arith)
+
 -- a text that begins with a name
-pub named : (s : List ℕ) (at : ℕ) (t name w v : List ℕ) → drop at s ≡ t ++ v → t ≡ name ++ w → part s (record { start = at; len = length name }) ≡ name
+named : (s : List ℕ) (at : ℕ) (t name w v : List ℕ) → drop at s ≡ t ++ v → t ≡ name ++ w
+    → part s (record { start = at; len = length name }) ≡ name
 named s at t name w v e f = part-of s at name (w ++ v) (e ∙ ap (λ l. l ++ v) f ∙ append-assoc name w v)
 
 pub start-back : (s : List ℕ) (at : ℕ) (t : Start (List ℕ)) (v : List ℕ) → drop at s ≡ startText t ++ v → onStart (part s) (startPlaces at t) ≡ t
@@ -56,7 +63,10 @@ start-back s at (response id status state) v e = refl
 start-back s at (event name id state) v e = ap (λ n. event n id state) (named s at _ name _ v e (event-text name id state))
 
 abbrev pub fieldPlaces : ℕ → Field (List ℕ) → Field Span
-fieldPlaces at f = record { name = record { start = at; len = length (f .name) }; value = record { start = at + length (f .name) + 1; len = length (f .value) } }
+fieldPlaces at f = record {
+  name = record { start = at; len = length (f .name) };
+  value = record { start = at + length (f .name) + 1; len = length (f .value) };
+}
 
 abbrev pub fieldsPlaces : ℕ → List (Field (List ℕ)) → List (Field Span)
 fieldsPlaces at [] = []
@@ -75,4 +85,5 @@ unfolding fieldsText
 fields-back s at [] v e = refl
 fields-back s at (f ∷ fs) v e =
     let h : drop at s ≡ fieldText f ++ (fieldsText fs ++ v) = e ∙ append-assoc (fieldText f) (fieldsText fs) v in
-    ap₂ _∷_ (field-back s at f (fieldsText fs ++ v) h) (fields-back s (at + length (fieldText f)) fs v (past s at (fieldText f) (fieldsText fs ++ v) h))
+    ap₂ _∷_ (field-back s at f (fieldsText fs ++ v) h)
+    (fields-back s (at + length (fieldText f)) fs v (past s at (fieldText f) (fieldsText fs ++ v) h))

@@ -1,16 +1,15 @@
 -- A writable message, written at the front of lent bytes, reads as the places of its parts, and its parts stand there.
 use Prim.Native.Nat.{ℕ, _+_, _-_}
 use mathlib.Core.Path.{_≡_, refl, sym, ap, _∙_}
-use mathlib.Core.Bool.{true, false, _&&_}
+use mathlib.Core.Bool.{true}
 use mathlib.Core.List.{List, [], _∷_, _++_, map, append-nil}
-use lib.ListN.{length, take, drop, length-drop}
+use lib.ListN.{length, drop, length-drop}
 use lib.Seq.{take-append-seam}
 use Rattle.framing.specs.Framing.{opening, framing}
-use Rattle.message.specs.Message.{Field, good, Head, Reading, refused, message, Message, part, onStart, onField, onReading}
-use Rattle.message.specs.StartLines.{startLine, started}
-use Rattle.message.specs.Fields.{fieldLines, lines}
+use Rattle.message.specs.Message.{Field, good, Head, refused, message, Message, part, onField, onReading}
+use Rattle.message.specs.Fields.{lines}
 use Rattle.message.specs.Known.{onceEach, namesOf, valueOf}
-use Rattle.message.specs.Reading.{agrees, judged, fieldsFrom, readFrom, readFramed, reading, heard}
+use Rattle.message.specs.Reading.{agrees, judged, fieldsFrom, readFramed, reading, heard}
 use Rattle.message.specs.declared.Span.{Span}
 use Rattle.message.specs.declared.Known.the-variants.{ContentLength}
 use Rattle.answer.specs.Written.{startText, fieldsText, written}
@@ -20,7 +19,7 @@ use Rattle.answer.proofs.StartLines.{start-read}
 use Rattle.answer.proofs.FieldLines.{fields-read}
 use Rattle.answer.proofs.Frames.{opens, follows, opened, frame}
 
--- no bytes are a proper beginning of an opening
+-- where no bytes are there, more are needed
 pub nothing-heard : heard [] ≡ refused 1 0
 unfolding heard reading framing opening
 nothing-heard = refl
@@ -61,8 +60,8 @@ module _ (m : Message) where
   fields-from w =
       let e = at-fields (written m) [] alone in
       ap (judged (written m)) (fields-read 32 (written m) fieldsAt (m .fields) (m .body ++ []) (w .few) (w .fields) e)
-      ∙ judged-good (written m) (fieldsPlaces fieldsAt (m .fields)) bodyAt (m .fields) (length (m .body)) (fields-back (written m) fieldsAt (m .fields) _ e)
-      body-length (w .once) (w .length-agrees)
+      ∙ judged-good (written m) (fieldsPlaces fieldsAt (m .fields)) bodyAt (m .fields) (length (m .body))
+      (fields-back (written m) fieldsAt (m .fields) _ e) body-length (w .once) (w .length-agrees)
 
   abbrev pub head : Head
   head = record { stated = length (written m); major = 2; minor = 0 }

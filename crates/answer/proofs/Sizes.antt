@@ -1,8 +1,8 @@
 -- How long written answers are.
-use Prim.Native.Nat.{ℕ, zero, suc, _+_, _*_, _^_, _≤_, _<_}
+use Prim.Native.Nat.{ℕ, _+_, _*_, _≤_, _<_}
 use native.Mathlib.Omega.{arith}
-use mathlib.Core.Path.{_≡_, refl, ap, _∙_}
-use mathlib.Core.List.{List, [], _∷_, _++_}
+use mathlib.Core.Path.{_≡_}
+use mathlib.Core.List.{List, [], _∷_}
 use lib.Dec.{lit≤}
 use lib.ListN.{length, length-append}
 use Rattle.lists.specs.Lists.{All}
@@ -10,7 +10,7 @@ use Rattle.octets.specs.Octets.{bytes}
 use Rattle.writers.specs.Decimal.{digits, width}
 use Rattle.writers.specs.SelfLength.{selfLength}
 use Rattle.writers.proofs.Digits.{width-below, three-length}
-use Rattle.message.specs.Message.{Start, Field, Message}
+use Rattle.message.specs.Message.{Field, Message}
 use Rattle.message.specs.Message as M
 use Rattle.message.specs.StartLines.{stateText}
 use Rattle.message.specs.declared.RequestState.{RequestState}
@@ -18,13 +18,11 @@ use Rattle.message.specs.declared.RequestState.the-variants.{Pending, InProgres
 use Rattle.answer.specs.Written.{startText, fieldText, fieldsText, afterLength, written}
 use Rattle.answer.specs.IdList.{behindCommas, idListText}
 use Rattle.answer.specs.Answers.{channelIdentifier, activeRequestIdList, completionCause, response, speakComplete}
+use Rattle.answer.proofs.Places.{field-size}
 use Rattle.answer.proofs.Frames.{written-length}
 
-field-size : (f : Field (List ℕ)) → length (fieldText f) ≡ 3 + length (f .name) + length (f .value)
-unfolding fieldText
-field-size f = simp length-append (omega arith)
-
-fields-size : (f : Field (List ℕ)) (fs : List (Field (List ℕ))) → length (fieldsText (f ∷ fs)) ≡ 3 + length (f .name) + length (f .value) + length (fieldsText fs)
+fields-size : (f : Field (List ℕ)) (fs : List (Field (List ℕ)))
+    → length (fieldsText (f ∷ fs)) ≡ 3 + length (f .name) + length (f .value) + length (fieldsText fs)
 unfolding fieldsText
 fields-size f fs = omega (arith, length-append (fieldText f) (fieldsText fs), field-size f)
 
@@ -57,7 +55,8 @@ response-start : (id status : ℕ) (state : RequestState) → length (startText 
 unfolding startText
 response-start id status state = simp length-append (omega (arith, three-length status))
 
-event-start : (name : List ℕ) (id : ℕ) (state : RequestState) → length (startText (M.event name id state)) ≡ 2 + length name + width id + length (stateText state)
+event-start : (name : List ℕ) (id : ℕ) (state : RequestState)
+    → length (startText (M.event name id state)) ≡ 2 + length name + width id + length (stateText state)
 unfolding startText
 event-start name id state = simp length-append (omega arith)
 
@@ -84,7 +83,11 @@ response-size name id status state ids n i l =
     let start = response-start id status state in
     let fields = fields-size (channelIdentifier name) (activeRequestIdList ids) in
     omega (
-      arith, message-size (response name id status state ids) (omega (arith, start, fields, id-most id i, state-most state)), start, fields, id-most id i
+      arith,
+      message-size (response name id status state ids) (omega (arith, start, fields, id-most id i, state-most state)),
+      start,
+      fields,
+      id-most id i,
     )
 
 pub complete-size : (name : List ℕ) (id cause : ℕ) → length name ≤ 44 → id < 4294967296 → length (completionCause cause .value) ≤ 24

@@ -1,21 +1,21 @@
 -- A written start line reads as its start.
-use Prim.Native.Nat.{ℕ, _+_, _≤_, _<_}
+use Prim.Native.Nat.{ℕ, _+_, _<_}
 use native.Mathlib.Omega.{arith}
-use mathlib.Core.Path.{_≡_, refl, sym, ap, _∙_}
-use mathlib.Core.Bool.{Bool, true, false, not, _&&_, _||_}
+use mathlib.Core.Path.{_≡_, refl, ap, _∙_}
+use mathlib.Core.Bool.{Bool, true, false, _&&_, _||_}
 use mathlib.Core.Option.{some}
 use mathlib.Core.List.{List, [], _∷_, _++_}
 use lib.Dec.{eqb, leb}
 use lib.ListN.{length, drop}
-use borrow.Author.Tests.{eq-eqb, leb-true, lt-leb}
+use borrow.Author.Tests.{leb-true, lt-leb}
 use Rattle.lists.specs.Lists.{all}
 use Rattle.octets.specs.Octets.{bytes, isDigit, isCapital}
-use Rattle.readers.specs.Words.{line, words, numberOf, isNumber, isRequestId}
+use Rattle.readers.specs.Words.{words, isRequestId}
 use Rattle.readers.proofs.Words.{both, lacks, lacks-append, lacks-of, line-of, words-last, words-more}
 use Rattle.writers.specs.Decimal.{digits, threeDigits}
 use Rattle.writers.proofs.Digits.{digits-all, digits-number, id-written, three-all, three-number, three-length}
 use Rattle.message.specs.Message.{Start, request, response, event}
-use Rattle.message.specs.StartLines.{startsCapital, isMethodName, isStatus, stateText, stateOf, twoWords, threeWords, startOf, started, lineStart, startLine}
+use Rattle.message.specs.StartLines.{startsCapital, isMethodName, isStatus, stateText, stateOf, twoWords, threeWords, startOf, started, startLine}
 use Rattle.message.specs.declared.RequestState.{RequestState}
 use Rattle.message.specs.declared.RequestState.the-variants.{Pending, InProgress, Complete}
 use Rattle.answer.specs.Written.{startText}
@@ -93,13 +93,22 @@ startWords (event name id state) = name ∷ digits id ∷ stateText state ∷ []
 text-says : (t : Start (List ℕ)) → StartFits t → Says (startText t) (startWords t)
 text-says (request name id) h = rw (request-text name id) (name-word name (h .0) before last (digits-word id))
 text-says (response id status state) h =
-    rw (response-text id status state) (digits-word id before word isDigit (threeDigits status) refl refl (three-all status (h .1)) before last (state-word state))
+    rw (response-text id status state)
+    (digits-word id before word isDigit (threeDigits status) refl refl (three-all status (h .1)) before last (state-word state))
 text-says (event name id state) h = rw (event-text name id state) (name-word name (h .0) before digits-word id before last (state-word state))
 
 start-of : (at : ℕ) (t : Start (List ℕ)) → StartFits t → startOf at (startWords t) ≡ some (startPlaces at t)
 start-of at (request name id) h = rw (h .0, id-written id (h .1), digits-number id, startOf, twoWords)
 start-of at (response id status state) h =
-    rw (state-back state, id-written id (h .0), status-written status (h .1), digits-number id, three-number status (h .1), startOf, threeWords)
+    rw (
+      state-back state,
+      id-written id (h .0),
+      status-written status (h .1),
+      digits-number id,
+      three-number status (h .1),
+      startOf,
+      threeWords,
+    )
 start-of at (event name id state) h = rw (state-back state, no-id name (h .0), h .0, id-written id (h .1), digits-number id, startOf, threeWords)
 
 pub start-read : (s : List ℕ) (at : ℕ) (t : Start (List ℕ)) (v : List ℕ) → StartFits t → drop at s ≡ startText t ++ 13 ∷ 10 ∷ v

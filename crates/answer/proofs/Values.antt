@@ -2,9 +2,9 @@
 use Prim.Native.Nat.{ℕ, zero, suc, _≤_}
 use native.Mathlib.Omega.{arith}
 use mathlib.Core.Path.{_≡_, refl, ap, _∙_}
-use mathlib.Core.Bool.{Bool, true, false, _&&_, _||_}
-use mathlib.Core.List.{List, [], _∷_, _++_}
-use lib.Dec.{leb, eqb, lit≤}
+use mathlib.Core.Bool.{Bool, true, false}
+use mathlib.Core.List.{List, [], _∷_}
+use lib.Dec.{leb, lit≤}
 use lib.ListN.{length}
 use borrow.Author.Tests.{leb-true, le-leb, ne-eqb}
 use Rattle.lists.specs.Lists.{all, run}
@@ -12,7 +12,6 @@ use Rattle.octets.specs.Octets.{within, isDigit, isValue, isBlank}
 use Rattle.readers.proofs.Words.{both, all-append, all-of}
 use Rattle.writers.specs.Decimal.{digits, threeDigits}
 use Rattle.writers.proofs.Digits.{digits-all}
-use Rattle.message.specs.Message.{Field}
 use Rattle.message.specs.Fields.{kept, trimEnd}
 use Rattle.answer.specs.IdList.{behindCommas, idListText}
 use Rattle.answer.specs.Answers.{completionCause}

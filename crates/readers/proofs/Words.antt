@@ -1,14 +1,13 @@
 -- Words and lines that were joined come apart again: a line before its CRLF, words between separators, tests of all bytes of a text.
-use Prim.Native.Nat.{ℕ, suc, zero, _+_, _-_, _*_, _≤_}
-use native.Mathlib.Omega.{arith}
+use Prim.Native.Nat.{ℕ, suc, _+_, _-_, _*_, _≤_}
 use mathlib.Core.Path.{_≡_, refl, sym, ap, _∙_}
 use mathlib.Core.Bool.{Bool, true, false, not, _&&_, false≢true}
 use mathlib.Core.Option.{some}
 use mathlib.Core.List.{List, [], _∷_, _++_}
-use lib.Dec.{eqb, leb}
+use lib.Dec.{eqb}
 use lib.ListN.{length}
 use borrow.Author.Tests.{eq-eqb, ne-eqb, le-leb, not-true}
-use Rattle.lists.specs.Lists.{all, run, same}
+use Rattle.lists.specs.Lists.{all, run}
 use Rattle.octets.specs.Octets.{isDigit}
 use Rattle.readers.specs.Words.{line, behind, words, onto, decimal, numberOf, isNumber, isRequestId}
 
@@ -39,10 +38,6 @@ lacks-of test b [] e a = refl
 lacks-of test b (x ∷ l) e a =
     let h = both (test x) (all test l) a in
     rw (ne-eqb x b (λ q. false≢true (sym e ∙ ap test (sym q) ∙ h .0))) (lacks-of test b l e (h .1))
-
-pub same-self : (l : List ℕ) → same l l ≡ true
-same-self [] = refl
-same-self (x ∷ l) = rw (eq-eqb x x refl) (same-self l)
 
 pub run-to : (test : ℕ → Bool) (l : List ℕ) (x : ℕ) (v : List ℕ) → all test l ≡ true → test x ≡ false → run test (l ++ x ∷ v) ≡ length l
 run-to test [] x v a e = rw (e, run)

@@ -1,19 +1,18 @@
 -- Decimal digits: what they are, which number they write, how many there are. `digits` is used through `digits-small`, `digits-big` and
 -- `dec-ind` alone, so its fuel stays here.
-use Prim.Native.Nat.{ℕ, zero, suc, _+_, _*_, _-_, _/_, _%_, _^_, _≤_, _<_}
+use Prim.Native.Nat.{ℕ, zero, suc, _+_, _*_, _/_, _%_, _^_, _≤_, _<_}
 use native.Mathlib.Nat.{le-refl, not-suc-le-zero, pow-suc}
 use native.Mathlib.Numerals.{add-one}
 use native.Mathlib.Omega.{arith}
 use native.Mathlib.Decide.{decLt}
 use mathlib.Core.Path.{_≡_, refl, sym, ap, _∙_}
-use mathlib.Core.Bool.{true, false, _&&_}
+use mathlib.Core.Bool.{true}
 use mathlib.Core.List.{List, [], _∷_, _++_}
-use lib.Dec.{ltb, leb}
 use lib.ListN.{length, length-append}
 use borrow.Author.Tests.{lt-ltb, le-ltb, le-leb}
 use Rattle.lists.specs.Lists.{all}
 use Rattle.octets.specs.Octets.{isDigit}
-use Rattle.readers.specs.Words.{decimal, numberOf, isRequestId}
+use Rattle.readers.specs.Words.{numberOf, isRequestId}
 use Rattle.readers.proofs.Words.{all-append, decimal-append, number-fits, id-fits}
 use Rattle.writers.specs.Decimal.{digitsWithin, digits, width, threeDigits}
 

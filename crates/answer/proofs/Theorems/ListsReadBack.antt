@@ -1,15 +1,15 @@
 -- Writable messages written end to end read as the list of them.
 -- Assumes nothing.
-use Prim.Native.Nat.{ℕ, zero, suc, _+_, _≤_}
+use Prim.Native.Nat.{ℕ, zero, suc, _≤_}
 use native.Mathlib.Nat.{le-of-suc-le-suc, not-suc-le-zero}
 use native.Mathlib.Omega.{arith}
-use mathlib.Core.Path.{_≡_, refl, ap, _∙_}
-use mathlib.Core.List.{List, [], _∷_, _++_}
+use mathlib.Core.Path.{_≡_, refl, ap}
+use mathlib.Core.List.{List, [], _∷_}
 use lib.ListN.{length, length-append}
 use lib.Seq.{drop-append-seam}
 use Rattle.lists.specs.Lists.{All}
 use Rattle.message.specs.Message.{Message}
-use Rattle.message.specs.Reading.{heard, messagesIn}
+use Rattle.message.specs.Reading.{messagesIn}
 use Rattle.answer.specs.Written.{written, writtenAll}
 use Rattle.answer.specs.Writable.{Writable}
 use Rattle.answer.proofs.Frames.{written-some}

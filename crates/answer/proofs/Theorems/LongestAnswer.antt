@@ -32,7 +32,8 @@ pub longest-bare : (name : List ℕ) (id status : ℕ) (state : RequestState) �
 unfolding fieldsText
 longest-bare name id status state n i = omega (arith, response-size name id status state [] (n .most) i (lit≤ tt), state-most state)
 
-pub longest-event : (name : List ℕ) (id cause : ℕ) → NameFits name → id < 4294967296 → cause ≤ 7 → length (written (speakComplete name id cause)) ≤ 305
+pub longest-event : (name : List ℕ) (id cause : ℕ) → NameFits name → id < 4294967296 → cause ≤ 7
+    → length (written (speakComplete name id cause)) ≤ 305
 longest-event name id cause n i c = omega (arith, complete-size name id cause (n .most) i (cause-fits cause c .1))
 
 -- sixteen ids of ten digits
