@@ -12,7 +12,8 @@ use borrow.Author.Tests.{lt-ltb, le-leb}
 use Rattle.lists.specs.Lists.{run, All}
 use Rattle.octets.specs.Octets.{isName, isValue, isBlank}
 use Rattle.readers.specs.Words.{line}
-use Rattle.readers.proofs.Words.{lacks, lacks-append, lacks-of, line-of, run-to}
+use Rattle.lists.proofs.Scans.{run-to}
+use Rattle.readers.proofs.Words.{lacks, lacks-append, lacks-of, line-of}
 use Rattle.message.specs.Message.{Field}
 use Rattle.message.specs.Fields.{trimEnd, trimmed, field, isPlain, fieldAt, lineAt, fieldLine, lines, fieldLines}
 use Rattle.answer.specs.Written.{fieldText, fieldsText}

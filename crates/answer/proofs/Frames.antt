@@ -5,16 +5,16 @@ use mathlib.Core.Path.{_≡_, refl, sym, ap, _∙_}
 use mathlib.Core.List.{List, _∷_, _++_, append-assoc}
 use lib.ListN.{length, drop, length-append}
 use lib.Seq.{drop-append-seam}
-use borrow.Author.Tests.{le-ltb}
 use Rattle.octets.specs.Octets.{bytes, crlf}
 use Rattle.readers.specs.Readers.{got, number}
-use Rattle.readers.proofs.WrittenNumbers.{number-read}
+use Rattle.readers.proofs.Spelled.{number-reads}
 use Rattle.writers.specs.Decimal.{digits, width}
 use Rattle.writers.specs.SelfLength.{selfLength}
 use Rattle.writers.proofs.Digits.{digits-all, digits-number, width-pos, width-below}
 use Rattle.writers.proofs.Theorems.SmallestLength.{self-length}
-use Rattle.framing.specs.Framing.{opening, measured, framed, framing}
+use Rattle.framing.specs.Framing.{opening, framed, framing}
 use Rattle.framing.specs.declared.Framing.the-variants.{Frame}
+use Rattle.framing.proofs.Frames.{measured-whole}
 use Rattle.message.specs.Message.{Message}
 use Rattle.answer.specs.Written.{startText, fieldsText, afterLength, written}
 use Rattle.answer.proofs.Places.{past}
@@ -24,7 +24,7 @@ regroup p d x s c f b r = simp append-assoc
 
 -- a number before a space
 number-written : (n : ℕ) (v : List ℕ) → width n ≤ 19 → number 19 (digits n ++ 32 ∷ v) ≡ got n (width n)
-number-written n v h = rw (number-read 32 refl v 18 (digits n) (width-pos n) h (digits-all n), digits-number n)
+number-written n v h = rw (number-reads 32 refl v 18 (digits n) (width-pos n) h (digits-all n), digits-number n)
 
 opening-read : (n : ℕ) (v : List ℕ) → width n ≤ 19
     → opening (bytes "MRCP/2.0 " ++ (digits n ++ 32 ∷ v)) ≡ got (record { major = 2; minor = 0; stated = n }) (9 + width n + 1)
@@ -32,9 +32,6 @@ unfolding opening
 opening-read n v h =
     rw (number-written n v h)
     (rw (drop-append-seam (digits n) (32 ∷ v)) (ap (got (record { major = 2; minor = 0; stated = n })) (omega arith)))
-
-measured-frame : (n k lent : ℕ) → n ≤ 16384 → k ≤ n → n ≤ lent → measured (record { major = 2; minor = 0; stated = n }) k lent ≡ Frame 2 0 k n
-measured-frame n k lent a b c = rw (le-ltb 16384 n a, le-ltb n k b, le-ltb lent n c, measured)
 
 -- the space behind the length
 space : (m : Message) → 1 ≤ length (afterLength m)
@@ -81,5 +78,5 @@ module _ (m : Message) where
       let few : size ≤ 16384 = omega (arith, written-length) in
       let there : size ≤ length s = omega (arith, written-length, length-append (written m) rest) in
       ap (λ r. framed r (length s)) (ap opening (written-is rest) ∙ opening-read size (follows rest) (width-below size 18 (omega arith)))
-      ∙ measured-frame size opens (length s) few opens-within there
+      ∙ measured-whole (record { major = 2; minor = 0; stated = size }) opens (length s) few opens-within there
       ∙ ap (Frame 2 0 opens) (sym written-length)

@@ -2,7 +2,7 @@
 use Prim.Native.Nat.{ℕ, _+_, _<_}
 use native.Mathlib.Omega.{arith}
 use mathlib.Core.Path.{_≡_, refl, ap, _∙_}
-use mathlib.Core.Bool.{Bool, true, false, _&&_, _||_}
+use mathlib.Core.Bool.{Bool, true, false, _&&_, _||_, and-false}
 use mathlib.Core.Option.{some}
 use mathlib.Core.List.{List, [], _∷_, _++_}
 use lib.Dec.{eqb, leb}
@@ -11,7 +11,8 @@ use borrow.Author.Tests.{leb-true, lt-leb}
 use Rattle.lists.specs.Lists.{all}
 use Rattle.octets.specs.Octets.{bytes, isDigit, isCapital}
 use Rattle.readers.specs.Words.{words, isRequestId}
-use Rattle.readers.proofs.Words.{both, lacks, lacks-append, lacks-of, line-of, words-last, words-more}
+use Rattle.lists.proofs.Tests.{both}
+use Rattle.readers.proofs.Words.{lacks, lacks-append, lacks-of, line-of, words-last, words-more}
 use Rattle.writers.specs.Decimal.{digits, threeDigits}
 use Rattle.writers.proofs.Digits.{digits-all, digits-number, id-written, three-all, three-number, three-length}
 use Rattle.message.specs.Message.{Start, request, response, event}
@@ -21,10 +22,6 @@ use Rattle.message.specs.declared.RequestState.the-variants.{Pending, InProgres
 use Rattle.answer.specs.Written.{startText}
 use Rattle.answer.specs.Writable.{StartFits}
 use Rattle.answer.proofs.Places.{startPlaces, request-text, response-text, event-text}
-
-and-false : (a : Bool) → a && false ≡ false
-and-false true = refl
-and-false false = refl
 
 -- ---- words, which no CR and no space is in
 

@@ -9,7 +9,8 @@ use lib.ListN.{length}
 use borrow.Author.Tests.{leb-true, le-leb, ne-eqb}
 use Rattle.lists.specs.Lists.{all, run}
 use Rattle.octets.specs.Octets.{within, isDigit, isValue, isBlank}
-use Rattle.readers.proofs.Words.{both, all-append, all-of}
+use Rattle.lists.proofs.Tests.{both}
+use Rattle.lists.proofs.Scans.{all-append, all-of}
 use Rattle.writers.specs.Decimal.{digits, threeDigits}
 use Rattle.writers.proofs.Digits.{digits-all}
 use Rattle.message.specs.Fields.{kept, trimEnd}

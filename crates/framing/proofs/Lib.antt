@@ -1,0 +1,5 @@
+pub mod Written
+pub mod Openings
+pub mod Frames
+pub mod Refusals
+pub mod Theorems

@@ -1,0 +1,5 @@
+pub mod Tests
+pub mod Scans
+pub mod Membership
+pub mod Rising
+pub mod Dealing

@@ -1,0 +1,7 @@
+pub mod StartLine
+pub mod Rows
+pub mod Says
+pub mod Parts
+pub mod Alike
+pub mod Refusals
+pub mod Theorems

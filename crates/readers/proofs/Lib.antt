@@ -1,2 +1,6 @@
+pub mod Steps
+pub mod Fair
+pub mod Spelled
+pub mod Decimals
+pub mod Cuts
 pub mod Words
-pub mod WrittenNumbers

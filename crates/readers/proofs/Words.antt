@@ -1,29 +1,17 @@
--- Words and lines that were joined come apart again: a line before its CRLF, words between separators, tests of all bytes of a text.
-use Prim.Native.Nat.{ℕ, suc, _+_, _-_, _*_, _≤_}
+-- Words and lines that were joined come apart again: a line before its CRLF, words between separators, numbers. Assumes nothing.
+use Prim.Native.Nat.{ℕ, _+_, _-_, _*_, _≤_}
 use mathlib.Core.Path.{_≡_, refl, sym, ap, _∙_}
-use mathlib.Core.Bool.{Bool, true, false, not, _&&_, false≢true}
+use mathlib.Core.Bool.{Bool, true, false, not, false≢true}
 use mathlib.Core.Option.{some}
 use mathlib.Core.List.{List, [], _∷_, _++_}
 use lib.Dec.{eqb}
 use lib.ListN.{length}
 use borrow.Author.Tests.{eq-eqb, ne-eqb, le-leb, not-true}
-use Rattle.lists.specs.Lists.{all, run}
+use Rattle.lists.specs.Lists.{all}
+use Rattle.lists.proofs.Tests.{both}
+use Rattle.lists.proofs.Scans.{all-append}
 use Rattle.octets.specs.Octets.{isDigit}
 use Rattle.readers.specs.Words.{line, behind, words, onto, decimal, numberOf, isNumber, isRequestId}
-
-pub both : (a b : Bool) → a && b ≡ true → (a ≡ true) × (b ≡ true)
-both true b e = (refl, e)
-both false b e = absurd (false≢true e)
-
--- ---- tests of all bytes
-
-pub all-append : (test : ℕ → Bool) (l m : List ℕ) → all test l ≡ true → all test m ≡ true → all test (l ++ m) ≡ true
-all-append test [] m a b = b
-all-append test (x ∷ l) m a b = let h = both (test x) (all test l) a in rw (h .0) (all-append test l m (h .1) b)
-
-pub all-of : (test other : ℕ → Bool) → ((x : ℕ) → test x ≡ true → other x ≡ true) → (l : List ℕ) → all test l ≡ true → all other l ≡ true
-all-of test other f [] a = refl
-all-of test other f (x ∷ l) a = let h = both (test x) (all test l) a in rw (f x (h .0)) (all-of test other f l (h .1))
 
 -- the byte b is not in the text
 abbrev pub lacks : ℕ → List ℕ → Bool
@@ -38,12 +26,6 @@ lacks-of test b [] e a = refl
 lacks-of test b (x ∷ l) e a =
     let h = both (test x) (all test l) a in
     rw (ne-eqb x b (λ q. false≢true (sym e ∙ ap test (sym q) ∙ h .0))) (lacks-of test b l e (h .1))
-
-pub run-to : (test : ℕ → Bool) (l : List ℕ) (x : ℕ) (v : List ℕ) → all test l ≡ true → test x ≡ false → run test (l ++ x ∷ v) ≡ length l
-run-to test [] x v a e = rw (e, run)
-run-to test (y ∷ l) x v a e = let h = both (test y) (all test l) a in rw (h .0, run) (ap suc (run-to test l x v (h .1) e))
-
--- ---- lines and words
 
 pub line-of : (l v : List ℕ) → lacks 13 l ≡ true → line (l ++ 13 ∷ 10 ∷ v) ≡ some l
 line-of [] v a = refl
@@ -62,8 +44,6 @@ words-more b [] v a = rw (eq-eqb b b refl, words)
 words-more b (x ∷ w) v a =
     let h = both (not (eqb x b)) (lacks b w) a in
     rw (not-true (eqb x b) (h .0), words) (ap (onto x) (words-more b w v (h .1)))
-
--- ---- numbers
 
 pub decimal-append : (v : ℕ) (l m : List ℕ) → decimal v (l ++ m) ≡ decimal (decimal v l) m
 decimal-append v [] m = refl

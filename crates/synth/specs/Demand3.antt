@@ -1,7 +1,7 @@
 -- The ledger of a channel's calls, and demand 3: document 01, "How tight the promises are".
 use Prim.Native.Nat.{ℕ}
 use mathlib.Core.Path.{_≡_}
-use mathlib.Core.Bool.{Bool, true, false, _||_}
+use mathlib.Core.Bool.{Bool, true, false, _&&_, _||_}
 use mathlib.Core.Option.{Option, none, some}
 use mathlib.Core.List.{List, [], _∷_, _++_}
 use lib.Dec.{eqb}
@@ -13,7 +13,7 @@ use Rattle.message.specs.declared.Known.the-variants.{ActiveRequestIdList}
 use Rattle.answer.specs.IdList.{idsOf}
 use Rattle.ledger.specs.Ledger.{Seen, Balanced, Run, Turn, after, trace}
 use Rattle.synth.specs.Channel.{View, held}
-use Rattle.synth.specs.Request.{methodOf}
+use Rattle.synth.specs.Request.{methodOf, isSpeak}
 use Rattle.synth.specs.Calls.{Lent, input, cause, Call, Reply, call, openChannel}
 use Rattle.synth.specs.declared.Method.{Method}
 
@@ -49,28 +49,21 @@ when false l = []
 -- a SPEAK answered 200 or 201 puts its id at the end of accepted
 abbrev pub acceptedBy : Option Asked → Message → List ℕ
 acceptedBy none m = []
-acceptedBy (some a) m = elim (a .method) [
-  | Method.Speak ↦ when (succeeds (m .start)) (a .id ∷ [])
-  | Method.Stop ↦ []
-  | Method.Pause ↦ []
-  | Method.Resume ↦ []
-  | Method.Control ↦ []
-  | Method.BargeInOccurred ↦ []
-  | Method.Unknown ↦ []
-]
+acceptedBy (some a) m = when (isSpeak (a .method) && succeeds (m .start)) (a .id ∷ [])
+
+abbrev pub isEnding : Method → Bool
+isEnding Method.Speak = false
+isEnding Method.Stop = true
+isEnding Method.Pause = false
+isEnding Method.Resume = false
+isEnding Method.Control = false
+isEnding Method.BargeInOccurred = true
+isEnding Method.Unknown = false
 
 -- a STOP or BARGE-IN-OCCURRED answered 200 or 201 puts the ids of the answer's list at the end of closed, in the order written
 abbrev pub closedBy : Option Asked → Message → List ℕ
 closedBy none m = []
-closedBy (some a) m = elim (a .method) [
-  | Method.Speak ↦ []
-  | Method.Stop ↦ when (succeeds (m .start)) (listed m)
-  | Method.Pause ↦ []
-  | Method.Resume ↦ []
-  | Method.Control ↦ []
-  | Method.BargeInOccurred ↦ when (succeeds (m .start)) (listed m)
-  | Method.Unknown ↦ []
-]
+closedBy (some a) m = when (isEnding (a .method) && succeeds (m .start)) (listed m)
 
 -- the id of an event
 abbrev pub eventId : Start (List ℕ) → List ℕ

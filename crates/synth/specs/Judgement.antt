@@ -22,11 +22,11 @@ pub data Verdict : Type 0 where
 
 infixr 20 _then_
 -- one step, and the next where it passes
-abbrev pub _then_ : Verdict → Verdict → Verdict
+unfoldable pub _then_ : Verdict → Verdict → Verdict
 _then_ passes v = v
 _then_ (fails status) v = fails status
 
-abbrev pub unless : Bool → ℕ → Verdict
+unfoldable pub unless : Bool → ℕ → Verdict
 unless true status = passes
 unless false status = fails status
 

@@ -13,7 +13,8 @@ use borrow.Author.Tests.{lt-ltb, le-ltb, le-leb}
 use Rattle.lists.specs.Lists.{all}
 use Rattle.octets.specs.Octets.{isDigit}
 use Rattle.readers.specs.Words.{numberOf, isRequestId}
-use Rattle.readers.proofs.Words.{all-append, decimal-append, number-fits, id-fits}
+use Rattle.lists.proofs.Scans.{all-append}
+use Rattle.readers.proofs.Words.{decimal-append, number-fits, id-fits}
 use Rattle.writers.specs.Decimal.{digitsWithin, digits, width, threeDigits}
 
 -- induction on decimal digits

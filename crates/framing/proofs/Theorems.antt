@@ -1,0 +1,2 @@
+pub mod OpeningGrammar
+pub mod FrameAlone

@@ -1,0 +1,4 @@
+pub mod PartsInOrder
+pub mod Judgement2
+pub mod IdsInRange
+pub mod ReadAlone

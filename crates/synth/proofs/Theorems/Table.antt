@@ -1,0 +1,86 @@
+-- T1 to T14 of document 01, as one table under a single statement about the definitions. Assumes nothing.
+use Prim.Native.Nat.{ℕ}
+use Prim.Native.String.{String}
+use mathlib.Core.Path.{_≡_, refl}
+use mathlib.Core.Bool.{true}
+use mathlib.Core.List.{List, [], _∷_, _++_, map}
+use lib.ListN.{length}
+use Rattle.octets.specs.Octets.{bytes}
+use Rattle.synth.specs.Channel.{View}
+use Rattle.synth.specs.Calls.{Call, Reply}
+use Rattle.synth.specs.declared.State.the-variants.{Speaking}
+use Rattle.synth.specs.declared.Entry.{Entry}
+use Rattle.synth.specs.declared.LastId.the-variants.{Seen}
+use Rattle.synth.proofs.Computed.{opened, lends, reports, replies}
+
+-- a line of the table: the number returned, the count written, the text written
+pub record Row : Type 0 where
+  pub number : ℕ
+  pub count : ℕ
+  pub text : List ℕ
+
+pub rowOf : Reply → Row
+rowOf r = record { number = r .number; count = length (r .written); text = r .written }
+
+pub gives : ℕ → ℕ → String → Row
+gives n count text = record { number = n; count = count; text = bytes text }
+
+-- `7f3a@speechsynth` as opened
+pub fresh : View
+fresh = opened "7f3a@speechsynth"
+
+-- the same channel, holding 1, 2, 3 and 4
+pub holding : View
+holding = record {
+  name = bytes "7f3a@speechsynth";
+  state = Speaking;
+  queue = map (λ (id : ℕ). record { id = id; kill = true }) (1 ∷ 2 ∷ 3 ∷ 4 ∷ []);
+  last = Seen 4;
+}
+
+-- one call on an opened channel
+pub alone : String → List Row
+alone text = map rowOf (replies fresh (lends text ∷ []))
+
+pub table :
+    alone ""  -- T1
+    ++ alone "MRCP/2.x"  -- T2
+    ++ alone "MRCP/2.0 0 "  -- T3
+    ++ alone "MRCP/2.0 10 "  -- T4
+    ++ alone "MRCP/2.0 16384 "  -- T5
+    ++ alone "MRCP/2.0 16385 "  -- T6
+    ++ alone "MRCP/2.0 12345678901234567890"  -- T7
+    ++ map rowOf
+    (replies fresh
+    (lends "MRCP/2.0 106 SPEAK 7\r\nChannel-Identifier:7f3a@speechsynth\r\nContent-Type:text/plain\r\nContent-Length:2\r\n\r\nHi"  -- T8
+    ∷ lends "MRCP/2.0 106 SPEAK 7\r\nChannel-Identifier:7f3a@speechsynth\r\nContent-Type:text/plain\r\nContent-Length:2\r\n\r\nHi"  -- T9
+    ∷ lends "MRCP/2.0 106 SPEAK 8\r\nChannel-Identifier:7f3a@speechsynth\r\nContent-Type:text/plain\r\nContent-Length:2\r\n\r\nHi"  -- T10
+    ∷ lends "MRCP/2.0 72 BARGE-IN-OCCURRED 9\r\nChannel-Identifier:7f3a@speechsynth\r\n\r\n"  -- T11
+    ∷ []))
+    ++ map rowOf (replies holding (lends "MRCP/2.0 59 STOP 9\r\nChannel-Identifier:7f3a@speechsynth\r\n\r\n" ∷ []))  -- T12
+    ++ map rowOf (replies holding (lends "MRCP/2.0 60 STOP 10\r\nChannel-Identifier:7f3a@speechsynth\r\n\r\n" ∷ []))  -- T13
+    ++ alone "MRCP/2.0 69 SPEAK 4294967296\r\nChannel-Identifier:7f3a@speechsynth\r\n\r\n"  -- T14
+    ++ map rowOf
+    (replies fresh
+    (lends "MRCP/2.0 106 SPEAK 7\r\nChannel-Identifier:7f3a@speechsynth\r\nContent-Type:text/plain\r\nContent-Length:2\r\n\r\nHi"
+    ∷ reports 0  -- the engine's normal end
+    ∷ []))
+    ≡ gives 1 0 ""
+    ∷ gives 2 0 ""
+    ∷ gives 4 0 ""
+    ∷ gives 4 0 ""
+    ∷ gives 1 0 ""
+    ∷ gives 3 0 ""
+    ∷ gives 2 0 ""
+    ∷ gives 0 70 "MRCP/2.0 70 7 200 IN-PROGRESS\r\nChannel-Identifier:7f3a@speechsynth\r\n\r\n"
+    ∷ gives 0 67 "MRCP/2.0 67 7 410 COMPLETE\r\nChannel-Identifier:7f3a@speechsynth\r\n\r\n"
+    ∷ gives 0 66 "MRCP/2.0 66 8 200 PENDING\r\nChannel-Identifier:7f3a@speechsynth\r\n\r\n"
+    ∷ gives 0 95 "MRCP/2.0 95 9 200 COMPLETE\r\nChannel-Identifier:7f3a@speechsynth\r\nActive-Request-Id-List:7,8\r\n\r\n"
+    ∷ gives 0 99 "MRCP/2.0 99 9 200 COMPLETE\r\nChannel-Identifier:7f3a@speechsynth\r\nActive-Request-Id-List:1,2,3,4\r\n\r\n"
+    ∷ gives 0 101 "MRCP/2.0 101 10 200 COMPLETE\r\nChannel-Identifier:7f3a@speechsynth\r\nActive-Request-Id-List:1,2,3,4\r\n\r\n"
+    ∷ gives 5 0 ""
+    ∷ gives 0 70 "MRCP/2.0 70 7 200 IN-PROGRESS\r\nChannel-Identifier:7f3a@speechsynth\r\n\r\n"
+    ∷ gives 0 108 "MRCP/2.0 108 SPEAK-COMPLETE 7 COMPLETE\r\nChannel-Identifier:7f3a@speechsynth\r\nCompletion-Cause:000 normal\r\n\r\n"
+    ∷ []
+unfolding rowOf gives fresh holding alone opened replies
+table = refl
