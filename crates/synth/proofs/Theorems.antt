@@ -1,7 +1,7 @@
-pub mod Demand3
+pub mod Table
+pub mod Readings
+pub mod RfcExamples
 pub mod Soundness
 pub mod Room
-pub mod Table
-pub mod RfcExamples
-pub mod Readings
 pub mod OnlyResume
+pub mod Demand3

@@ -81,7 +81,7 @@ module _ (v : View) (f : Facts v) (room : ℕ) where
   answer-law s (message h (request name id) fs) e =
       let o = judge v (requestOf h name id fs) in
       let g = judge-good v f (requestOf h name id fs) (id-heard s h (request name id) fs e) in
-      deliver-law v (input s) room (h .stated) o (g .writable) (g .short) (g .stays-sound)
+      deliver-law v (input s) room _ o (g .writable) (g .short) (g .stays-sound)
       (subst
       (λ (m : Reading (List ℕ)).
       Effect (held v) (firstAbove (v .last)) (collected (acceptedBy (askedBy m)) (o .says)) (collected (closedBy (askedBy m)) (o .says)) (held (o .next))

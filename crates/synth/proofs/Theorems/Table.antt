@@ -13,17 +13,18 @@ use Rattle.synth.specs.declared.Entry.{Entry}
 use Rattle.synth.specs.declared.LastId.the-variants.{Seen}
 use Rattle.synth.proofs.Computed.{opened, lends, reports, replies}
 
--- a line of the table: the number returned, the count written, the text written
+-- a line of the table: the number returned, the counts consumed and written, the text written
 pub record Row : Type 0 where
   pub number : ℕ
+  pub consumed : ℕ
   pub count : ℕ
   pub text : List ℕ
 
 pub rowOf : Reply → Row
-rowOf r = record { number = r .number; count = length (r .written); text = r .written }
+rowOf r = record { number = r .number; consumed = r .consumed; count = length (r .written); text = r .written }
 
-pub gives : ℕ → ℕ → String → Row
-gives n count text = record { number = n; count = count; text = bytes text }
+pub gives : ℕ → ℕ → ℕ → String → Row
+gives number consumed count text = record { number = number; consumed = consumed; count = count; text = bytes text }
 
 -- `7f3a@speechsynth` as opened
 pub fresh : View
@@ -65,22 +66,22 @@ pub table :
     (lends "MRCP/2.0 106 SPEAK 7\r\nChannel-Identifier:7f3a@speechsynth\r\nContent-Type:text/plain\r\nContent-Length:2\r\n\r\nHi"
     ∷ reports 0  -- the engine's normal end
     ∷ []))
-    ≡ gives 1 0 ""
-    ∷ gives 2 0 ""
-    ∷ gives 4 0 ""
-    ∷ gives 4 0 ""
-    ∷ gives 1 0 ""
-    ∷ gives 3 0 ""
-    ∷ gives 2 0 ""
-    ∷ gives 0 70 "MRCP/2.0 70 7 200 IN-PROGRESS\r\nChannel-Identifier:7f3a@speechsynth\r\n\r\n"
-    ∷ gives 0 67 "MRCP/2.0 67 7 410 COMPLETE\r\nChannel-Identifier:7f3a@speechsynth\r\n\r\n"
-    ∷ gives 0 66 "MRCP/2.0 66 8 200 PENDING\r\nChannel-Identifier:7f3a@speechsynth\r\n\r\n"
-    ∷ gives 0 95 "MRCP/2.0 95 9 200 COMPLETE\r\nChannel-Identifier:7f3a@speechsynth\r\nActive-Request-Id-List:7,8\r\n\r\n"
-    ∷ gives 0 99 "MRCP/2.0 99 9 200 COMPLETE\r\nChannel-Identifier:7f3a@speechsynth\r\nActive-Request-Id-List:1,2,3,4\r\n\r\n"
-    ∷ gives 0 101 "MRCP/2.0 101 10 200 COMPLETE\r\nChannel-Identifier:7f3a@speechsynth\r\nActive-Request-Id-List:1,2,3,4\r\n\r\n"
-    ∷ gives 5 0 ""
-    ∷ gives 0 70 "MRCP/2.0 70 7 200 IN-PROGRESS\r\nChannel-Identifier:7f3a@speechsynth\r\n\r\n"
-    ∷ gives 0 108 "MRCP/2.0 108 SPEAK-COMPLETE 7 COMPLETE\r\nChannel-Identifier:7f3a@speechsynth\r\nCompletion-Cause:000 normal\r\n\r\n"
+    ≡ gives 1 0 0 ""
+    ∷ gives 2 0 0 ""
+    ∷ gives 4 0 0 ""
+    ∷ gives 4 0 0 ""
+    ∷ gives 1 0 0 ""
+    ∷ gives 3 0 0 ""
+    ∷ gives 2 0 0 ""
+    ∷ gives 0 106 70 "MRCP/2.0 70 7 200 IN-PROGRESS\r\nChannel-Identifier:7f3a@speechsynth\r\n\r\n"
+    ∷ gives 0 106 67 "MRCP/2.0 67 7 410 COMPLETE\r\nChannel-Identifier:7f3a@speechsynth\r\n\r\n"
+    ∷ gives 0 106 66 "MRCP/2.0 66 8 200 PENDING\r\nChannel-Identifier:7f3a@speechsynth\r\n\r\n"
+    ∷ gives 0 72 95 "MRCP/2.0 95 9 200 COMPLETE\r\nChannel-Identifier:7f3a@speechsynth\r\nActive-Request-Id-List:7,8\r\n\r\n"
+    ∷ gives 0 59 99 "MRCP/2.0 99 9 200 COMPLETE\r\nChannel-Identifier:7f3a@speechsynth\r\nActive-Request-Id-List:1,2,3,4\r\n\r\n"
+    ∷ gives 0 60 101 "MRCP/2.0 101 10 200 COMPLETE\r\nChannel-Identifier:7f3a@speechsynth\r\nActive-Request-Id-List:1,2,3,4\r\n\r\n"
+    ∷ gives 5 69 0 ""
+    ∷ gives 0 106 70 "MRCP/2.0 70 7 200 IN-PROGRESS\r\nChannel-Identifier:7f3a@speechsynth\r\n\r\n"
+    ∷ gives 0 0 108 "MRCP/2.0 108 SPEAK-COMPLETE 7 COMPLETE\r\nChannel-Identifier:7f3a@speechsynth\r\nCompletion-Cause:000 normal\r\n\r\n"
     ∷ []
 unfolding rowOf gives fresh holding alone opened replies
 table = refl

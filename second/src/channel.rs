@@ -1,0 +1,256 @@
+//! The channel: what is kept of it, when it is sound, its opening, and the
+//! two calls on it, a client's message and an engine's report.
+
+use crate::framing::{frame, Frame};
+use crate::judgement::{judge, Request};
+use crate::message::start;
+use crate::octets::{is, NAME};
+use crate::refusal::Refusal;
+use crate::start_line::StartLine;
+use crate::writing::{Event, Outgoing};
+
+/// "Outstanding SPEAKs: at most 16, the active one counted."
+pub const MOST_OUTSTANDING: usize = 16;
+const RESOURCE: &[u8] = b"@speechsynth";
+/// "1 to 32 ASCII letters or digits, then `@speechsynth`."
+const LONGEST_FIRST_PART: usize = 32;
+pub const LONGEST_NAME: usize = LONGEST_FIRST_PART + RESOURCE.len();
+/// "Engine cause above 7" is refused.
+const LAST_CAUSE: u32 = 7;
+
+/// A state as a number, since a channel handed in may hold any.
+#[derive(Clone, Copy, Debug, PartialEq, Eq)]
+pub struct State(pub u8);
+
+impl State {
+    pub const IDLE: State = State(0);
+    pub const SPEAKING: State = State(1);
+    pub const PAUSED: State = State(2);
+
+    pub fn word(self) -> Option<&'static str> {
+        match self {
+            State::IDLE => Some("idle"),
+            State::SPEAKING => Some("speaking"),
+            State::PAUSED => Some("paused"),
+            _ => None,
+        }
+    }
+}
+
+#[derive(Clone, Copy, Debug, PartialEq, Eq)]
+pub struct Name {
+    bytes: [u8; LONGEST_NAME],
+    length: usize,
+}
+
+impl Name {
+    pub const EMPTY: Name = Name {
+        bytes: [0; LONGEST_NAME],
+        length: 0,
+    };
+
+    /// Any bytes that there is room for, well formed or not.
+    pub fn of(bytes: &[u8]) -> Option<Name> {
+        let mut name = Name::EMPTY;
+        name.bytes.get_mut(..bytes.len())?.copy_from_slice(bytes);
+        name.length = bytes.len();
+        Some(name)
+    }
+
+    pub fn bytes(&self) -> &[u8] {
+        &self.bytes[..self.length]
+    }
+}
+
+/// "Channel name: 1 to 32 ASCII letters or digits, then `@speechsynth`."
+pub fn is_well_formed(name: &[u8]) -> bool {
+    match name.strip_suffix(RESOURCE) {
+        None => false,
+        Some(first) => {
+            (1..=LONGEST_FIRST_PART).contains(&first.len())
+                && first.iter().all(|&byte| is(byte, NAME) && byte != b'-')
+        }
+    }
+}
+
+/// One outstanding SPEAK.
+#[derive(Clone, Copy, Debug, Default, PartialEq, Eq)]
+pub struct Speak {
+    pub id: u32,
+    pub killable: bool,
+}
+
+/// The outstanding SPEAKs in order, the active one first.
+#[derive(Clone, Copy, Debug, PartialEq, Eq)]
+pub struct Queue {
+    pub stored: [Speak; MOST_OUTSTANDING],
+    /// Above 16 only in a channel that is not sound.
+    pub count: u32,
+}
+
+impl Queue {
+    pub const EMPTY: Queue = Queue {
+        stored: [Speak {
+            id: 0,
+            killable: false,
+        }; MOST_OUTSTANDING],
+        count: 0,
+    };
+
+    pub fn outstanding(&self) -> &[Speak] {
+        &self.stored[..MOST_OUTSTANDING.min(self.count as usize)]
+    }
+}
+
+#[derive(Clone, Copy, Debug, PartialEq, Eq)]
+pub struct Channel {
+    pub name: Name,
+    pub state: State,
+    /// The last request-id seen; none on a fresh channel.
+    pub last: Option<u32>,
+    pub queue: Queue,
+}
+
+/// What a call returns: the number, the count consumed and the count written.
+#[derive(Clone, Copy, Debug, PartialEq, Eq)]
+pub struct Outcome {
+    pub number: u32,
+    pub consumed: usize,
+    pub written: usize,
+}
+
+impl Outcome {
+    fn refused(refusal: Refusal, consumed: usize) -> Outcome {
+        Outcome {
+            number: refusal.number(),
+            consumed,
+            written: 0,
+        }
+    }
+
+    fn handled(consumed: usize, written: usize) -> Outcome {
+        Outcome {
+            number: 0,
+            consumed,
+            written,
+        }
+    }
+}
+
+impl Channel {
+    /// "A refused opening gives such a channel with an empty name, so not sound."
+    pub const UNOPENED: Channel = Channel {
+        name: Name::EMPTY,
+        state: State::IDLE,
+        last: None,
+        queue: Queue::EMPTY,
+    };
+
+    /// "An opened channel is idle, with an empty queue and no request seen."
+    pub fn open(name: &[u8]) -> (Channel, u32) {
+        let kept = Name::of(name).filter(|_| is_well_formed(name));
+        match kept {
+            None => (Channel::UNOPENED, Refusal::ChannelName.number()),
+            Some(name) => {
+                let opened = Channel {
+                    name,
+                    ..Channel::UNOPENED
+                };
+                (opened, 0)
+            }
+        }
+    }
+
+    /// "A channel is sound if its name is well formed, it is idle exactly when
+    /// nothing is outstanding, at most 16 are, and their ids rise in queue order
+    /// with none above the last seen (none seen: idle)."
+    pub fn is_sound(&self) -> bool {
+        is_well_formed(self.name.bytes())
+            && self.state.word().is_some()
+            && (self.state == State::IDLE) == (self.queue.count == 0)
+            && self.queue.count as usize <= MOST_OUTSTANDING
+            && self.ids_rise()
+            && self.none_above_the_last()
+    }
+
+    fn ids_rise(&self) -> bool {
+        let outstanding = self.queue.outstanding();
+        outstanding.windows(2).all(|pair| pair[0].id < pair[1].id)
+    }
+
+    fn none_above_the_last(&self) -> bool {
+        match self.last {
+            None => self.state == State::IDLE,
+            Some(last) => self
+                .queue
+                .outstanding()
+                .iter()
+                .all(|speak| speak.id <= last),
+        }
+    }
+
+    /// The ids that the channel holds, in queue order.
+    pub fn held(&self) -> impl Iterator<Item = u32> + '_ {
+        self.queue.outstanding().iter().map(|speak| speak.id)
+    }
+
+    /// One client message: 21 before all, 1 to 6 before 7.
+    pub fn handle(&mut self, input: &[u8], output: &mut [u8]) -> Outcome {
+        if !self.is_sound() {
+            return Outcome::refused(Refusal::NotSound, 0);
+        }
+        let frame = match frame(input) {
+            Err(refusal) => return Outcome::refused(refusal, 0),
+            Ok(frame) => frame,
+        };
+        let request = match request(&frame) {
+            Err(refusal) => return Outcome::refused(refusal, frame.length()),
+            Ok(request) => request,
+        };
+        let mut next = *self;
+        let answer = judge(&mut next, &request);
+        match Outgoing::Answer(answer).write(self.name.bytes(), output) {
+            None => Outcome::refused(Refusal::NoRoom, 0),
+            Some(written) => {
+                *self = next;
+                Outcome::handled(frame.length(), written)
+            }
+        }
+    }
+
+    /// One engine report: 21, then 9, then 8, then 7.
+    pub fn report(&mut self, cause: u32, output: &mut [u8]) -> Outcome {
+        if !self.is_sound() {
+            return Outcome::refused(Refusal::NotSound, 0);
+        }
+        if cause > LAST_CAUSE {
+            return Outcome::refused(Refusal::NoSuchCause, 0);
+        }
+        if self.state != State::SPEAKING {
+            return Outcome::refused(Refusal::NothingSpeaking, 0);
+        }
+        let mut next = *self;
+        let id = next.complete_active();
+        match Outgoing::Event(Event { id, cause }).write(self.name.bytes(), output) {
+            None => Outcome::refused(Refusal::NoRoom, 0),
+            Some(written) => {
+                *self = next;
+                Outcome::handled(0, written)
+            }
+        }
+    }
+}
+
+/// 5 for a malformed start line, 6 for a response or event.
+fn request<'a>(frame: &Frame<'a>) -> Result<Request<'a>, Refusal> {
+    match start(frame) {
+        None => Err(Refusal::StartLine),
+        Some((StartLine::Request { name, id }, block)) => Ok(Request {
+            version: frame.version,
+            name,
+            id,
+            block,
+        }),
+        Some(_) => Err(Refusal::NoRequest),
+    }
+}

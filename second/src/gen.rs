@@ -1,0 +1,69 @@
+//! Making scripts: sound, bent and broken inputs.
+//!
+//! A script depends on seed and kind alone. Commands come in batches, since
+//! a sweep over all places of one message or a conversation belongs together.
+
+mod batch;
+mod bend;
+mod draft;
+mod random;
+mod talk;
+mod unsound;
+mod wire;
+mod wish;
+
+use std::io::{self, Write};
+
+use batch::Batch;
+use random::Random;
+
+#[derive(Clone, Copy, Debug, PartialEq, Eq)]
+pub enum Kind {
+    Frame,
+    Read,
+    Calls,
+    All,
+}
+
+impl Kind {
+    pub fn of_word(word: &str) -> Option<Kind> {
+        match word {
+            "frame" => Some(Kind::Frame),
+            "read" => Some(Kind::Read),
+            "calls" => Some(Kind::Calls),
+            "all" => Some(Kind::All),
+            _ => None,
+        }
+    }
+}
+
+/// Writes a script with `count` commands that write output.
+pub fn script(seed: u64, count: u64, kind: Kind, out: &mut dyn Write) -> io::Result<()> {
+    let mut random = Random::new(seed);
+    let mut batch = Batch::default();
+    let mut left = count;
+    while left > 0 {
+        batch.clear();
+        fill(&mut batch, &mut random, kind);
+        left -= batch.write(left, out)?;
+    }
+    Ok(())
+}
+
+fn fill(batch: &mut Batch, random: &mut Random, kind: Kind) {
+    match kind {
+        Kind::Frame => wire::frames(batch, random),
+        Kind::Read => wire::reads(batch, random),
+        Kind::Calls => talk::calls(batch, random),
+        Kind::All => mixture(batch, random),
+    }
+}
+
+/// Some of each kind; a conversation is long, so it is drawn less often.
+fn mixture(batch: &mut Batch, random: &mut Random) {
+    match random.below(8) {
+        0 | 1 => (0..30).for_each(|_| wire::frames(batch, random)),
+        2..=4 => (0..30).for_each(|_| wire::reads(batch, random)),
+        _ => talk::calls(batch, random),
+    }
+}

@@ -1,0 +1,92 @@
+//! Commands that belong together, as the lines of a script.
+
+use std::io::{self, Write};
+
+use crate::channel::{Channel, MOST_OUTSTANDING};
+use crate::script::{put_channel, put_hex};
+
+#[derive(Default)]
+pub struct Batch {
+    text: Vec<u8>,
+    /// Where each line ends, and whether its command writes output.
+    lines: Vec<(usize, bool)>,
+}
+
+impl Batch {
+    pub fn clear(&mut self) {
+        self.text.clear();
+        self.lines.clear();
+    }
+
+    pub fn frame(&mut self, bytes: &[u8]) {
+        self.text.extend_from_slice(b"frame ");
+        self.hex(bytes);
+    }
+
+    pub fn read(&mut self, bytes: &[u8]) {
+        self.text.extend_from_slice(b"read ");
+        self.hex(bytes);
+    }
+
+    pub fn open(&mut self, name: &[u8]) {
+        self.text.extend_from_slice(b"open ");
+        self.hex(name);
+    }
+
+    pub fn message(&mut self, room: usize, bytes: &[u8]) {
+        let words = format!("message {room} ");
+        self.text.extend_from_slice(words.as_bytes());
+        self.hex(bytes);
+    }
+
+    pub fn report(&mut self, cause: u32, room: usize) {
+        let words = format!("report {cause} {room}");
+        self.text.extend_from_slice(words.as_bytes());
+        self.end(true);
+    }
+
+    pub fn show(&mut self) {
+        self.text.extend_from_slice(b"show");
+        self.end(true);
+    }
+
+    /// A channel whose entries are those that its count says, or the count as
+    /// a further word where it says otherwise.
+    pub fn channel(&mut self, channel: &Channel, given: usize) {
+        let mut listed = *channel;
+        listed.queue.count = given as u32;
+        put_channel(&mut self.text, &listed);
+        debug_assert!(given <= MOST_OUTSTANDING);
+        if channel.queue.count as usize != given {
+            let count = format!(" {}", channel.queue.count);
+            self.text.extend_from_slice(count.as_bytes());
+        }
+        self.end(false);
+    }
+
+    fn hex(&mut self, bytes: &[u8]) {
+        put_hex(&mut self.text, bytes);
+        self.end(true);
+    }
+
+    fn end(&mut self, writes: bool) {
+        self.text.push(b'\n');
+        self.lines.push((self.text.len(), writes));
+    }
+
+    /// Writes lines until `most` commands that write output are among them;
+    /// gives how many were.
+    pub fn write(&self, most: u64, out: &mut dyn Write) -> io::Result<u64> {
+        let mut counted = 0;
+        let mut end = 0;
+        for &(line_end, writes) in &self.lines {
+            if counted == most {
+                break;
+            }
+            counted += u64::from(writes);
+            end = line_end;
+        }
+        out.write_all(&self.text[..end])?;
+        Ok(counted)
+    }
+}

@@ -1,0 +1,25 @@
+//! The server end of one MRCPv2 control channel, written from document 01 alone.
+//!
+//! One module for each section of the paper. Nothing here knows of the other
+//! implementation; the two are compared by the lines that they write.
+
+pub mod channel;
+pub mod fields;
+pub mod framing;
+pub mod gen;
+pub mod judgement;
+pub mod ledger;
+pub mod message;
+pub mod octets;
+pub mod play;
+pub mod refusal;
+pub mod script;
+pub mod start_line;
+pub mod states;
+pub mod tell;
+pub mod writing;
+
+pub use channel::{Channel, Outcome};
+pub use framing::frame;
+pub use message::read;
+pub use refusal::Refusal;

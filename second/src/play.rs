@@ -1,0 +1,186 @@
+//! Playing a script: runs its calls and writes their lines.
+
+use std::io::{BufRead, Write};
+
+use crate::channel::{Channel, Outcome};
+use crate::fields::Fields;
+use crate::framing::frame;
+use crate::ledger::{entry_of_message, entry_of_report, Entry, Ledger, Violation};
+use crate::message::{read, Message};
+use crate::script::{each_command, put_channel, put_hex, Command, Trouble, MOST_ROOM};
+use crate::start_line::StartLine;
+
+/// The current channel, the ledger since its opening, and the bytes to lend.
+pub struct Board {
+    pub channel: Channel,
+    ledger: Ledger,
+    /// False from a `channel` line to the next `open`: nothing was accepted then.
+    checked: bool,
+    output: Vec<u8>,
+}
+
+/// A call's numbers, the bytes written, and what the ledger took from it.
+pub struct Call<'a> {
+    pub outcome: Outcome,
+    pub written: &'a [u8],
+    pub entry: Result<Entry, Violation>,
+}
+
+impl Board {
+    pub fn new() -> Board {
+        Board {
+            channel: Channel::UNOPENED,
+            ledger: Ledger::default(),
+            checked: true,
+            output: vec![0; MOST_ROOM as usize],
+        }
+    }
+
+    pub fn open(&mut self, name: &[u8]) -> u32 {
+        let (channel, number) = Channel::open(name);
+        self.channel = channel;
+        self.ledger = Ledger::default();
+        self.checked = true;
+        number
+    }
+
+    pub fn set(&mut self, channel: Channel) {
+        self.channel = channel;
+        self.checked = false;
+    }
+
+    pub fn message(&mut self, room: usize, input: &[u8]) -> Call<'_> {
+        let outcome = self.channel.handle(input, &mut self.output[..room]);
+        let entry = entry_of_message(input, outcome.number, &self.output[..outcome.written]);
+        self.entered(outcome, entry)
+    }
+
+    pub fn report(&mut self, cause: u32, room: usize) -> Call<'_> {
+        let outcome = self.channel.report(cause, &mut self.output[..room]);
+        let entry = entry_of_report(outcome.number, &self.output[..outcome.written]);
+        self.entered(outcome, entry)
+    }
+
+    fn entered(&mut self, outcome: Outcome, entry: Result<Entry, Violation>) -> Call<'_> {
+        let entry = match self.checked {
+            true => entry.and_then(|entry| {
+                self.ledger.enter(&entry)?;
+                self.ledger.balance(self.channel.held())?;
+                Ok(entry)
+            }),
+            false => Ok(entry.unwrap_or(Entry::Nothing)),
+        };
+        Call {
+            outcome,
+            written: &self.output[..outcome.written],
+            entry,
+        }
+    }
+}
+
+impl Default for Board {
+    fn default() -> Board {
+        Board::new()
+    }
+}
+
+pub fn play(script: &mut dyn BufRead, out: &mut dyn Write) -> Result<(), Trouble> {
+    let mut board = Board::new();
+    let mut text = Vec::new();
+    each_command(script, |line, command| {
+        text.clear();
+        let entry = perform(&mut board, command, &mut text);
+        out.write_all(&text).map_err(Trouble::Output)?;
+        entry.map_err(|violation| Trouble::Ledger { line, violation })
+    })
+}
+
+/// Runs one command and puts the lines it writes.
+fn perform(board: &mut Board, command: Command, text: &mut Vec<u8>) -> Result<(), Violation> {
+    let mut kept = Ok(());
+    match command {
+        Command::Frame(input) => put_framed(text, &input),
+        Command::Read(input) => put_read(text, &input),
+        Command::Open(name) => put(text, &format!("open {}\n", board.open(&name))),
+        Command::Message { room, input } => {
+            let call = board.message(room, &input);
+            let Outcome {
+                number, consumed, ..
+            } = call.outcome;
+            put(text, &format!("message {number} {consumed} "));
+            put_hex(text, call.written);
+            text.push(b'\n');
+            kept = call.entry.map(|_| ());
+        }
+        Command::Report { cause, room } => {
+            let call = board.report(cause, room);
+            put(text, &format!("report {} ", call.outcome.number));
+            put_hex(text, call.written);
+            text.push(b'\n');
+            kept = call.entry.map(|_| ());
+        }
+        Command::Channel(channel) => board.set(*channel),
+        Command::Show => {
+            put_channel(text, &board.channel);
+            text.push(b'\n');
+        }
+    }
+    kept
+}
+
+fn put(text: &mut Vec<u8>, words: &str) {
+    text.extend_from_slice(words.as_bytes());
+}
+
+fn put_framed(text: &mut Vec<u8>, input: &[u8]) {
+    let (number, length) = match frame(input) {
+        Ok(frame) => (0, frame.length()),
+        Err(refusal) => (refusal.number(), 0),
+    };
+    put(text, &format!("frame {number} {length}\n"));
+}
+
+fn put_read(text: &mut Vec<u8>, input: &[u8]) {
+    match read(input) {
+        Err(refusal) => put(text, &format!("read {}\n", refusal.number())),
+        Ok(message) => {
+            put(text, &start_words(&message));
+            match &message.fields {
+                None => put(text, "bad\n"),
+                Some(fields) => put_fields(text, fields),
+            }
+        }
+    }
+}
+
+fn start_words(message: &Message) -> String {
+    let (major, minor) = (message.version.major, message.version.minor);
+    let length = message.length;
+    match message.start {
+        StartLine::Request { name, id } => {
+            let name = String::from_utf8_lossy(name);
+            format!("read 0 {length} request {major} {minor} {name} {id}\n")
+        }
+        StartLine::Response { id, status, state } => {
+            let state = state.word();
+            format!("read 0 {length} response {major} {minor} {id} {status:03} {state}\n")
+        }
+        StartLine::Event { name, id, state } => {
+            let (name, state) = (String::from_utf8_lossy(name), state.word());
+            format!("read 0 {length} event {major} {minor} {name} {id} {state}\n")
+        }
+    }
+}
+
+fn put_fields(text: &mut Vec<u8>, fields: &Fields) {
+    for field in fields.all() {
+        put(text, "field ");
+        put_hex(text, field.name);
+        text.push(b' ');
+        put_hex(text, field.value);
+        text.push(b'\n');
+    }
+    put(text, "body ");
+    put_hex(text, fields.body);
+    text.push(b'\n');
+}

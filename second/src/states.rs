@@ -1,0 +1,144 @@
+//! States and queue: what each method and the engine's report do to a sound
+//! channel. The first outstanding SPEAK is the active one; idle means none.
+
+use crate::channel::{Channel, Queue, Speak, State, MOST_OUTSTANDING};
+use crate::octets::request_id;
+use crate::start_line::RequestState;
+
+/// The ids of an answer's list, in queue order; empty where there is no list.
+#[derive(Clone, Copy, Debug, PartialEq, Eq)]
+pub struct Ids {
+    stored: [u32; MOST_OUTSTANDING],
+    count: usize,
+}
+
+impl Ids {
+    pub const NONE: Ids = Ids {
+        stored: [0; MOST_OUTSTANDING],
+        count: 0,
+    };
+
+    pub fn all(&self) -> &[u32] {
+        &self.stored[..self.count]
+    }
+
+    fn add(&mut self, id: u32) {
+        self.stored[self.count] = id;
+        self.count += 1;
+    }
+}
+
+/// One bit for each place of the queue.
+type Places = u32;
+
+impl Channel {
+    pub fn is_full(&self) -> bool {
+        self.queue.outstanding().len() == MOST_OUTSTANDING
+    }
+
+    /// SPEAK with less than 16 outstanding: "idle, becomes active and speaking,
+    /// IN-PROGRESS. Otherwise joins the end, PENDING."
+    pub fn speak(&mut self, id: u32, killable: bool) -> RequestState {
+        let end = self.queue.count as usize;
+        self.queue.stored[end] = Speak { id, killable };
+        self.queue.count += 1;
+        if self.state == State::IDLE {
+            self.state = State::SPEAKING;
+            RequestState::InProgress
+        } else {
+            RequestState::Pending
+        }
+    }
+
+    /// STOP: "Without a list all outstanding end; with one, those named end and
+    /// other ids are passed over."
+    pub fn stop(&mut self, list: Option<&[u8]>) -> Ids {
+        let ended = match list {
+            None => Places::MAX,
+            Some(value) => self.places_named(value),
+        };
+        self.end(ended)
+    }
+
+    /// BARGE-IN-OCCURRED: all end, "whatever their own setting", where the
+    /// active one is killable; otherwise nothing ends.
+    pub fn barge_in(&mut self) -> Ids {
+        match self.queue.outstanding().first() {
+            Some(active) if active.killable => self.end(Places::MAX),
+            _ => Ids::NONE,
+        }
+    }
+
+    /// PAUSE when not idle: "paused, listing the active id".
+    pub fn pause(&mut self) -> Ids {
+        self.state = State::PAUSED;
+        self.active()
+    }
+
+    /// RESUME when not idle: "From paused: speaking, listing the active id.
+    /// From speaking: no change, no list (house)."
+    pub fn resume(&mut self) -> Ids {
+        if self.state == State::SPEAKING {
+            return Ids::NONE;
+        }
+        self.state = State::SPEAKING;
+        self.active()
+    }
+
+    /// CONTROL when not idle: "no change, listing the active id".
+    pub fn control(&self) -> Ids {
+        self.active()
+    }
+
+    /// The engine's report while speaking: the active one is over; "the next
+    /// becomes active and speaking, or idle". Gives the id that is over.
+    pub fn complete_active(&mut self) -> u32 {
+        self.end(1).all()[0]
+    }
+
+    fn active(&self) -> Ids {
+        let mut ids = Ids::NONE;
+        if let Some(active) = self.queue.outstanding().first() {
+            ids.add(active.id);
+        }
+        ids
+    }
+
+    /// Ends the SPEAKs at the given places. The state stays, so that the next
+    /// one is active "in the same state"; "when none remains, idle".
+    fn end(&mut self, places: Places) -> Ids {
+        let mut ended = Ids::NONE;
+        let mut left = Queue::EMPTY;
+        for (place, speak) in self.queue.outstanding().iter().enumerate() {
+            if places & (1 << place) != 0 {
+                ended.add(speak.id);
+            } else {
+                left.stored[left.count as usize] = *speak;
+                left.count += 1;
+            }
+        }
+        self.queue = left;
+        if left.count == 0 {
+            self.state = State::IDLE;
+        }
+        ended
+    }
+
+    /// The places of the SPEAKs that a legal list names; ids are numbers here.
+    fn places_named(&self, value: &[u8]) -> Places {
+        let mut places = 0;
+        for id in list_of_ids(value).flatten() {
+            let mut held = self.held();
+            if let Some(place) = held.position(|held| held == id) {
+                places |= 1 << place;
+            }
+        }
+        places
+    }
+}
+
+/// "One or more ids joined by single commas, without blanks." A part that is
+/// no id comes as None; an empty value is one empty part.
+pub fn list_of_ids(value: &[u8]) -> impl Iterator<Item = Option<u32>> + '_ {
+    value.split(|&byte| byte == b',').map(request_id)
+}

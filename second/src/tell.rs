@@ -1,0 +1,299 @@
+//! Telling a script for people, and at its end what became of each prompt.
+//!
+//! What became of a prompt is derived from the ledger's view alone: the
+//! inputs, the numbers returned and the bytes written.
+
+use std::io::{BufRead, Write};
+
+use crate::channel::Outcome;
+use crate::framing::frame;
+use crate::ledger::{request_of, Entry, Violation};
+use crate::message::read;
+use crate::play::{Board, Call};
+use crate::refusal::Refusal;
+use crate::script::{each_command, put_channel, Command, Trouble};
+use crate::start_line::StartLine;
+use crate::writing::cause_word;
+
+/// What became of a SPEAK.
+enum Fate {
+    Held,
+    Spoken(String),
+    Stopped(String),
+    NotAccepted(String),
+}
+
+struct Prompt {
+    id: u32,
+    fate: Fate,
+}
+
+/// The SPEAKs since one opening, in the order of the calls.
+struct Chapter {
+    title: String,
+    prompts: Vec<Prompt>,
+}
+
+struct Teller {
+    board: Board,
+    chapters: Vec<Chapter>,
+}
+
+pub fn tell(script: &mut dyn BufRead, out: &mut dyn Write) -> Result<(), Trouble> {
+    let mut teller = Teller {
+        board: Board::new(),
+        chapters: Vec::new(),
+    };
+    teller.begin("before any opening".to_string());
+    each_command(script, |line, command| {
+        let mut text = String::new();
+        let kept = teller.perform(command, &mut text);
+        out.write_all(text.as_bytes()).map_err(Trouble::Output)?;
+        kept.map_err(|violation| Trouble::Ledger { line, violation })
+    })?;
+    let text = teller.fates();
+    out.write_all(text.as_bytes()).map_err(Trouble::Output)
+}
+
+impl Teller {
+    fn begin(&mut self, title: String) {
+        let prompts = Vec::new();
+        self.chapters.push(Chapter { title, prompts });
+    }
+
+    fn perform(&mut self, command: Command, text: &mut String) -> Result<(), Violation> {
+        match command {
+            Command::Frame(input) => tell_framed(text, &input),
+            Command::Read(input) => tell_read(text, &input),
+            Command::Open(name) => self.open(text, &name),
+            Command::Message { room, input } => return self.message(text, room, &input),
+            Command::Report { cause, room } => return self.report(text, cause, room),
+            Command::Channel(channel) => {
+                self.board.set(*channel);
+                let words = channel_words(&self.board);
+                text.push_str(&format!("== set by the script: {words}\n\n"));
+                self.begin(format!("set by the script: {words}"));
+            }
+            Command::Show => {
+                text.push_str(&format!("== now: {}\n\n", channel_words(&self.board)));
+            }
+        }
+        Ok(())
+    }
+
+    fn open(&mut self, text: &mut String, name: &[u8]) {
+        let number = self.board.open(name);
+        let name = readable(name);
+        if number == 0 {
+            text.push_str(&format!("== channel {name} opened\n\n"));
+            self.begin(format!("channel {name}"));
+        } else {
+            text.push_str(&format!("== channel `{name}` not opened\n"));
+            text.push_str(&refused(number));
+            self.begin(format!("channel `{name}`, not opened"));
+        }
+    }
+
+    fn message(&mut self, text: &mut String, room: usize, input: &[u8]) -> Result<(), Violation> {
+        let length = frame(input).map_or(input.len(), |frame| frame.length());
+        text.push_str(&arrow("->", &input[..length]));
+        if length < input.len() {
+            let after = input.len() - length;
+            text.push_str(&format!("   (and {after} bytes after the message)\n"));
+        }
+        let call = self.board.message(room, input);
+        tell_answer(text, &call, room);
+        let chapter = self.chapters.last_mut().expect("one since the beginning");
+        if let Some((method, id)) = request_of(input) {
+            chapter.note(method, id, &call);
+        }
+        call.entry.map(|_| ())
+    }
+
+    fn report(&mut self, text: &mut String, cause: u32, room: usize) -> Result<(), Violation> {
+        let word = cause_word(cause).unwrap_or("no such cause");
+        text.push_str(&format!("** the engine reports {cause:03} {word}\n"));
+        let call = self.board.report(cause, room);
+        tell_answer(text, &call, room);
+        let chapter = self.chapters.last_mut().expect("one since the beginning");
+        if let Ok(Entry::Closed(ids)) = &call.entry {
+            let cause = cause_written(call.written);
+            chapter.close(ids, || Fate::Spoken(cause.clone()));
+        }
+        call.entry.map(|_| ())
+    }
+
+    fn fates(&self) -> String {
+        let mut text = String::from("What became of each prompt\n");
+        for chapter in &self.chapters {
+            // The time before any opening is worth a word only if something came then.
+            if chapter.prompts.is_empty() && self.chapters.len() > 1 {
+                continue;
+            }
+            text.push_str(&format!("\n{}\n", chapter.title));
+            for prompt in &chapter.prompts {
+                text.push_str(&format!("  {:>10}  {}\n", prompt.id, prompt.fate.words()));
+            }
+        }
+        text
+    }
+}
+
+impl Chapter {
+    /// What a message from the client tells of prompts.
+    fn note(&mut self, method: &[u8], id: u32, call: &Call) {
+        match &call.entry {
+            Ok(Entry::Accepted(id)) => self.add(*id, Fate::Held),
+            Ok(Entry::Closed(ids)) => {
+                let by = format!("{} {id}", String::from_utf8_lossy(method));
+                self.close(ids, || Fate::Stopped(by.clone()));
+            }
+            _ if method == b"SPEAK" => self.add(id, Fate::NotAccepted(why_not(call))),
+            _ => {}
+        }
+    }
+
+    fn add(&mut self, id: u32, fate: Fate) {
+        self.prompts.push(Prompt { id, fate });
+    }
+
+    fn close(&mut self, ids: &[u32], fate: impl Fn() -> Fate) {
+        for &id in ids {
+            // What is held is among the latest.
+            let mut prompts = self.prompts.iter_mut().rev();
+            match prompts.find(|prompt| prompt.id == id && matches!(prompt.fate, Fate::Held)) {
+                Some(prompt) => prompt.fate = fate(),
+                // Only on a channel that the script has set.
+                None => self.add(id, fate()),
+            }
+        }
+    }
+}
+
+impl Fate {
+    fn words(&self) -> String {
+        match self {
+            Fate::Held => "still held".to_string(),
+            Fate::Spoken(cause) => format!("spoken, {cause}"),
+            Fate::Stopped(by) => format!("stopped by {by}"),
+            Fate::NotAccepted(why) => format!("not accepted, {why}"),
+        }
+    }
+}
+
+/// Why a SPEAK was not accepted: the status written or the refusal.
+fn why_not(call: &Call) -> String {
+    if call.outcome.number != 0 {
+        return format!("refused {}", call.outcome.number);
+    }
+    match read(call.written).map(|message| message.start) {
+        Ok(StartLine::Response { status, .. }) => format!("{status}"),
+        _ => "answered with something else".to_string(),
+    }
+}
+
+/// The cause that the event names.
+fn cause_written(written: &[u8]) -> String {
+    let fields = read(written).ok().and_then(|message| message.fields);
+    let named = fields.as_ref().and_then(|fields| {
+        let mut all = fields.all().iter();
+        all.find(|field| field.name.eq_ignore_ascii_case(b"Completion-Cause"))
+    });
+    named.map_or("no cause".to_string(), |field| readable(field.value))
+}
+
+fn tell_answer(text: &mut String, call: &Call, room: usize) {
+    let Outcome { number, .. } = call.outcome;
+    if number == 0 {
+        // It ends with its own empty line.
+        text.push_str(&arrow("<-", call.written));
+    } else {
+        text.push_str(&refused(number));
+        if number == Refusal::NoRoom.number() {
+            text.insert_str(text.len() - 2, &format!(" of {room}"));
+        }
+    }
+}
+
+fn refused(number: u32) -> String {
+    let meaning = Refusal::of_number(number).map_or("no such number", Refusal::meaning);
+    format!("   refused {number}: {meaning}\n\n")
+}
+
+fn tell_framed(text: &mut String, input: &[u8]) {
+    text.push_str(&arrow("frame:", input));
+    match frame(input) {
+        Ok(frame) => {
+            let (length, lent) = (frame.length(), input.len());
+            text.push_str(&format!("   a frame of {length} of {lent} bytes\n\n"));
+        }
+        Err(refusal) => text.push_str(&refused(refusal.number())),
+    }
+}
+
+fn tell_read(text: &mut String, input: &[u8]) {
+    text.push_str(&arrow("read:", input));
+    let message = match read(input) {
+        Ok(message) => message,
+        Err(refusal) => return text.push_str(&refused(refusal.number())),
+    };
+    let kind = match message.start {
+        StartLine::Request { .. } => "a request",
+        StartLine::Response { .. } => "a response",
+        StartLine::Event { .. } => "an event",
+    };
+    let rest = match &message.fields {
+        None => "bad fields".to_string(),
+        Some(fields) => format!("{} fields, body {}", fields.all().len(), fields.body.len()),
+    };
+    let length = message.length;
+    text.push_str(&format!("   {kind} of {length} bytes, {rest}\n\n"));
+}
+
+fn channel_words(board: &Board) -> String {
+    let mut text = Vec::new();
+    put_channel(&mut text, &board.channel);
+    let hex = String::from_utf8_lossy(&text).into_owned();
+    let parts: Vec<&str> = hex.split(' ').collect();
+    let name = readable(board.channel.name.bytes());
+    format!(
+        "channel `{name}` {}, last id {}, queue {}",
+        parts[2],
+        parts[3],
+        parts[4..].join(" count ")
+    )
+}
+
+/// The bytes after an arrow, CRLF as line ends, each line indented.
+fn arrow(arrow: &str, bytes: &[u8]) -> String {
+    let mut text = arrow.to_string();
+    let mut rest = bytes;
+    let mut indent = " ";
+    loop {
+        let end = rest.windows(2).position(|pair| pair == b"\r\n");
+        let line = readable(&rest[..end.unwrap_or(rest.len())]);
+        if !line.is_empty() {
+            text.push_str(indent);
+            text.push_str(&line);
+        }
+        text.push('\n');
+        indent = "   ";
+        match end {
+            // A line end at the very end shows by itself.
+            Some(end) if end + 2 < rest.len() => rest = &rest[end + 2..],
+            _ => return text,
+        }
+    }
+}
+
+/// Bytes for people: what cannot be printed is escaped.
+fn readable(bytes: &[u8]) -> String {
+    let mut text = String::new();
+    for &byte in bytes {
+        match byte {
+            b' '..=b'~' => text.push(byte.into()),
+            _ => text.push_str(&byte.escape_ascii().to_string()),
+        }
+    }
+    text
+}

@@ -1,0 +1,179 @@
+//! Bytes written: answers and events.
+
+use crate::start_line::RequestState;
+use crate::states::Ids;
+
+/// A response to one request.
+#[derive(Clone, Copy, Debug, PartialEq, Eq)]
+pub struct Answer {
+    pub id: u32,
+    pub status: u16,
+    pub state: RequestState,
+    /// No list field where it is empty.
+    pub list: Ids,
+}
+
+/// A SPEAK-COMPLETE event, always COMPLETE, with a cause of 0 to 7.
+#[derive(Clone, Copy, Debug, PartialEq, Eq)]
+pub struct Event {
+    pub id: u32,
+    pub cause: u32,
+}
+
+const CAUSES: [&str; 8] = [
+    "normal",
+    "barge-in",
+    "parse-failure",
+    "uri-failure",
+    "error",
+    "language-unsupported",
+    "lexicon-load-failure",
+    "cancelled",
+];
+
+/// The cause's word; none above 7.
+pub fn cause_word(cause: u32) -> Option<&'static str> {
+    CAUSES.get(cause as usize).copied()
+}
+
+#[derive(Clone, Copy, Debug, PartialEq, Eq)]
+pub enum Outgoing {
+    Answer(Answer),
+    Event(Event),
+}
+
+/// Takes bytes: to count them first, then to write them.
+trait Sink {
+    fn put(&mut self, bytes: &[u8]);
+
+    /// Digits without leading zeros, but at least `least` of them.
+    fn number(&mut self, mut number: u64, least: usize) {
+        let mut digits = [b'0'; 20];
+        let mut at = digits.len();
+        while number > 0 {
+            at -= 1;
+            digits[at] = b'0' + (number % 10) as u8;
+            number /= 10;
+        }
+        self.put(&digits[at.min(digits.len() - least)..]);
+    }
+}
+
+struct Count(usize);
+
+impl Sink for Count {
+    fn put(&mut self, bytes: &[u8]) {
+        self.0 += bytes.len();
+    }
+}
+
+struct Pen<'a> {
+    output: &'a mut [u8],
+    at: usize,
+}
+
+impl Sink for Pen<'_> {
+    fn put(&mut self, bytes: &[u8]) {
+        let end = self.at + bytes.len();
+        self.output[self.at..end].copy_from_slice(bytes);
+        self.at = end;
+    }
+}
+
+const OPENING: &[u8] = b"MRCP/2.0 ";
+
+impl Outgoing {
+    /// The exact size of the message, its own digits in it.
+    pub fn size(&self, name: &[u8]) -> usize {
+        let mut count = Count(OPENING.len());
+        self.put_rest(name, &mut count);
+        with_own_digits(count.0)
+    }
+
+    /// Writes the message at the beginning of the output and gives its size.
+    /// None, and no byte written, if the output is shorter.
+    pub fn write(&self, name: &[u8], output: &mut [u8]) -> Option<usize> {
+        let size = self.size(name);
+        let output = output.get_mut(..size)?;
+        let mut pen = Pen { output, at: 0 };
+        pen.put(OPENING);
+        pen.number(size as u64, 1);
+        self.put_rest(name, &mut pen);
+        Some(size)
+    }
+
+    /// All that comes after the length's digits.
+    fn put_rest(&self, name: &[u8], sink: &mut impl Sink) {
+        match self {
+            Outgoing::Answer(answer) => put_answer_line(answer, sink),
+            Outgoing::Event(event) => put_event_line(event, sink),
+        }
+        sink.put(b"Channel-Identifier:");
+        sink.put(name);
+        sink.put(b"\r\n");
+        match self {
+            Outgoing::Answer(answer) => put_list(answer.list.all(), sink),
+            Outgoing::Event(event) => put_cause(event.cause, sink),
+        }
+        sink.put(b"\r\n");
+    }
+}
+
+fn put_answer_line(answer: &Answer, sink: &mut impl Sink) {
+    sink.put(b" ");
+    sink.number(u64::from(answer.id), 1);
+    sink.put(b" ");
+    sink.number(u64::from(answer.status), 3);
+    sink.put(b" ");
+    sink.put(answer.state.word().as_bytes());
+    sink.put(b"\r\n");
+}
+
+fn put_event_line(event: &Event, sink: &mut impl Sink) {
+    sink.put(b" SPEAK-COMPLETE ");
+    sink.number(u64::from(event.id), 1);
+    sink.put(b" ");
+    sink.put(RequestState::Complete.word().as_bytes());
+    sink.put(b"\r\n");
+}
+
+fn put_list(ids: &[u32], sink: &mut impl Sink) {
+    let [first, others @ ..] = ids else {
+        return;
+    };
+    sink.put(b"Active-Request-Id-List:");
+    sink.number(u64::from(*first), 1);
+    for id in others {
+        sink.put(b",");
+        sink.number(u64::from(*id), 1);
+    }
+    sink.put(b"\r\n");
+}
+
+fn put_cause(cause: u32, sink: &mut impl Sink) {
+    sink.put(b"Completion-Cause:");
+    sink.number(u64::from(cause), 3);
+    sink.put(b" ");
+    sink.put(CAUSES[cause as usize].as_bytes());
+    sink.put(b"\r\n");
+}
+
+/// "The length is the smallest number that equals the message's size with its
+/// own digits in it": `without` is the size without them.
+pub fn with_own_digits(without: usize) -> usize {
+    // Fewer digits give a smaller number, so the first count that fits is the one.
+    let mut digits = 1;
+    while digits_of(without + digits) != digits {
+        digits += 1;
+    }
+    without + digits
+}
+
+fn digits_of(mut number: usize) -> usize {
+    let mut digits = 1;
+    while number >= 10 {
+        number /= 10;
+        digits += 1;
+    }
+    digits
+}

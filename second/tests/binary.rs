@@ -1,0 +1,293 @@
+//! The program as it is run: scripts in, lines out, exit statuses.
+
+use std::io::Write;
+use std::process::{Command, Output, Stdio};
+
+fn second(words: &[&str], input: &[u8]) -> Output {
+    let mut child = Command::new(env!("CARGO_BIN_EXE_second"))
+        .args(words)
+        .stdin(Stdio::piped())
+        .stdout(Stdio::piped())
+        .stderr(Stdio::piped())
+        .spawn()
+        .expect("the program starts");
+    let mut stdin = child.stdin.take().expect("a pipe");
+    let input = input.to_vec();
+    let feeder = std::thread::spawn(move || {
+        // A program that stops early does not read to the end.
+        let _ = stdin.write_all(&input);
+    });
+    let output = child.wait_with_output().expect("the program ends");
+    feeder.join().expect("the feeder ends");
+    output
+}
+
+fn text(bytes: &[u8]) -> String {
+    String::from_utf8_lossy(bytes).into_owned()
+}
+
+fn hex(text: &str) -> String {
+    text.replace('|', "\r\n")
+        .bytes()
+        .map(|byte| format!("{byte:02x}"))
+        .collect()
+}
+
+fn played(script: &str) -> String {
+    let output = second(&["play"], script.as_bytes());
+    assert_eq!(output.status.code(), Some(0), "{}", text(&output.stderr));
+    text(&output.stdout)
+}
+
+#[test]
+fn the_lines_of_each_command() {
+    let name = hex("7f3a@speechsynth");
+    let speak = hex("MRCP/2.0 106 SPEAK 7|Channel-Identifier:7f3a@speechsynth|\
+         Content-Type:text/plain|Content-Length:2||Hi");
+    let answer = hex("MRCP/2.0 70 7 200 IN-PROGRESS|Channel-Identifier:7f3a@speechsynth||");
+    let event = hex(
+        "MRCP/2.0 108 SPEAK-COMPLETE 7 COMPLETE|Channel-Identifier:7f3a@speechsynth|\
+         Completion-Cause:000 normal||",
+    );
+    let rows = [
+        ("# a comment".to_string(), String::new()),
+        (String::new(), String::new()),
+        ("frame -".to_string(), "frame 1 0\n".to_string()),
+        (format!("frame {} # more", hex("MRCP/2.0 12 x")), "frame 0 12\n".to_string()),
+        ("read 78".to_string(), "read 2\n".to_string()),
+        (
+            format!("read {speak}"),
+            format!(
+                "read 0 106 request 2 0 SPEAK 7\nfield {} {name}\nfield {} {}\nfield {} {}\nbody {}\n",
+                hex("Channel-Identifier"),
+                hex("Content-Type"),
+                hex("text/plain"),
+                hex("Content-Length"),
+                hex("2"),
+                hex("Hi"),
+            ),
+        ),
+        (
+            format!("read {}", hex("MRCP/02.07 39 007 099 COMPLETE|A: ||")),
+            format!("read 0 39 response 2 7 7 099 COMPLETE\nfield {} -\nbody -\n", hex("A")),
+        ),
+        (
+            format!("read {}", hex("MRCP/2.0 28 E 9 PENDING|x|")),
+            "read 0 28 event 2 0 E 9 PENDING\nbad\n".to_string(),
+        ),
+        ("show".to_string(), "channel - idle - -\n".to_string()),
+        (format!("message 305 {speak}"), "message 21 0 -\n".to_string()),
+        ("open 78".to_string(), "open 10\n".to_string()),
+        (format!("open {name}"), "open 0\n".to_string()),
+        (format!("message 69 {speak}"), "message 7 0 -\n".to_string()),
+        (format!("message 0070 {speak}"), format!("message 0 106 {answer}\n")),
+        ("show".to_string(), format!("channel {name} speaking 7 7+\n")),
+        ("report 8 305".to_string(), "report 9 -\n".to_string()),
+        ("report 0 305".to_string(), format!("report 0 {event}\n")),
+        ("report 0 305".to_string(), "report 8 -\n".to_string()),
+        (format!("channel {name} 7 - 3+,2- 200"), String::new()),
+        ("show".to_string(), {
+            let unset = ",0-".repeat(14);
+            format!("channel {name} 7 - 3+,2-{unset} 200\n")
+        }),
+        ("report 0 305".to_string(), "report 21 -\n".to_string()),
+        (format!("channel {name} 2 9 3+,4-,5+ 2"), String::new()),
+        ("show".to_string(), format!("channel {name} paused 9 3+,4-\n")),
+    ];
+    let script: String = rows.iter().map(|(line, _)| format!("{line}\n")).collect();
+    let expected: String = rows.iter().map(|(_, lines)| lines.as_str()).collect();
+    assert_eq!(played(&script), expected);
+    // A last line without its end is fine.
+    assert_eq!(played(script.trim_end()), expected);
+}
+
+const UNREADABLE: &[&str] = &[
+    "nothing",
+    "frame",
+    "frame ",
+    "frame  4d",
+    " frame 4d",
+    "frame 4d ",
+    "frame\t4d",
+    "frame 4D",
+    "frame 4",
+    "frame 4g",
+    "frame 4d 4d",
+    "frame --",
+    "frame 4d\r",
+    " ",
+    "Frame 4d",
+    "read",
+    "open",
+    "open 1",
+    "message 305",
+    "message -1 4d",
+    "message +1 4d",
+    "message 1000001 4d",
+    "message x 4d",
+    "message 4d",
+    "message 99999999999999999999999999 4d",
+    "report 0",
+    "report 4294967296 0",
+    "report 0 1000001",
+    "report - 0",
+    "report 0 0 0",
+    "show 1",
+    "channel - idle -",
+    "channel - idle - - - -",
+    "channel - busy - -",
+    "channel - 256 - -",
+    "channel - -1 - -",
+    "channel - idle 4294967296 -",
+    "channel - idle x -",
+    "channel - idle - 1",
+    "channel - idle - +",
+    "channel - idle - 1+,",
+    "channel - idle - ,1+",
+    "channel - idle - 1+ 2-",
+    "channel - idle - 4294967296+",
+    "channel - idle - - 4294967296",
+];
+
+#[test]
+fn unreadable_lines() {
+    let long = format!("channel {} idle - -", "61".repeat(45));
+    let many = format!("channel - idle - {}", vec!["1+"; 17].join(","));
+    let huge = format!("frame {}", "00".repeat(1_000_001));
+    let longer = [&long[..], &many, &huge];
+    for &line in UNREADABLE.iter().chain(&longer) {
+        let script = format!("# first\nframe -\n\n{line}\nframe -\n");
+        for act in ["play", "tell"] {
+            let output = second(&[act], script.as_bytes());
+            let shown = &line[..line.len().min(60)];
+            assert_eq!(output.status.code(), Some(2), "{act} {shown}");
+            let error = text(&output.stderr);
+            assert!(error.contains("line 4:"), "{act} {shown}: {error}");
+            if act == "play" {
+                assert_eq!(text(&output.stdout), "frame 1 0\n", "{shown}");
+            }
+        }
+    }
+}
+
+#[test]
+fn the_ends_of_the_ranges_are_readable() {
+    let most = format!("frame {}", "00".repeat(1_000_000));
+    let lines = [
+        "message 1000000 -",
+        "message 000000000000000000000000000007 -",
+        "report 4294967295 1000000",
+        "channel - 255 4294967295 4294967295+,0- 4294967295",
+        "   # a comment after blanks",
+        "show   # a comment after blanks",
+        "show# a comment",
+        "# \u{e9} any bytes",
+        &most,
+    ];
+    for line in lines {
+        played(line);
+    }
+    let name = "61".repeat(44);
+    played(&format!("channel {name} idle - -\nshow"));
+    let queue = vec!["1+"; 16].join(",");
+    played(&format!("channel - idle - {queue}\nshow"));
+}
+
+#[test]
+fn anything_else_is_usage() {
+    let rows: [&[&str]; 9] = [
+        &[],
+        &["help"],
+        &["play", "a", "b"],
+        &["gen"],
+        &["gen", "1"],
+        &["gen", "x", "1"],
+        &["gen", "1", "1", "none"],
+        &["gen", "1", "1", "all", "more"],
+        &["play", "no such file"],
+    ];
+    for words in rows {
+        let output = second(words, b"");
+        assert_eq!(output.status.code(), Some(2), "{words:?}");
+        assert!(!output.stderr.is_empty(), "{words:?}");
+        assert!(output.stdout.is_empty(), "{words:?}");
+    }
+}
+
+/// How many of the script's commands write output.
+fn writing_commands(script: &str) -> usize {
+    let lines = script.lines();
+    lines.filter(|line| !line.starts_with("channel ")).count()
+}
+
+#[test]
+fn what_is_made_is_the_same_each_time_and_plays() {
+    for kind in ["frame", "read", "calls", "all"] {
+        for seed in ["0", "1", "2", "77", "18446744073709551615"] {
+            let words = ["gen", seed, "3000", kind];
+            let made = second(&words, b"");
+            assert_eq!(made.status.code(), Some(0));
+            assert_eq!(made.stdout, second(&words, b"").stdout, "{kind} {seed}");
+            assert_eq!(writing_commands(&text(&made.stdout)), 3000);
+            for act in ["play", "tell"] {
+                let output = second(&[act], &made.stdout);
+                let error = text(&output.stderr);
+                assert_eq!(output.status.code(), Some(0), "{kind} {seed} {error}");
+                assert!(error.is_empty(), "{error}");
+            }
+        }
+    }
+    let one = second(&["gen", "1", "100"], b"");
+    let other = second(&["gen", "2", "100"], b"");
+    assert_ne!(one.stdout, other.stdout);
+    assert!(second(&["gen", "1", "0"], b"").stdout.is_empty());
+}
+
+#[test]
+fn what_became_of_each_prompt() {
+    let channel = "Channel-Identifier:7f3a@speechsynth|";
+    let speak = |id: u32, length: u32, kind: &str| {
+        let rest = format!("SPEAK {id}|{channel}Content-Type:{kind}|Content-Length:2||Hi");
+        format!(
+            "message 305 {}\n",
+            hex(&format!("MRCP/2.0 {length} {rest}"))
+        )
+    };
+    let stop = hex(&format!(
+        "MRCP/2.0 85 STOP 5|{channel}Active-Request-Id-List:2||"
+    ));
+    let script = format!(
+        "open {}\n{}{}{}{}report 4 305\nmessage 305 {stop}\nreport 9 10\n",
+        hex("7f3a@speechsynth"),
+        speak(1, 106, "text/plain"),
+        speak(2, 106, "text/plain"),
+        speak(3, 106, "text/plain"),
+        speak(4, 105, "text/html"),
+    );
+    let output = second(&["tell"], script.as_bytes());
+    assert_eq!(output.status.code(), Some(0));
+    let told = text(&output.stdout);
+    let (story, fates) = told.split_once("What became of each prompt\n").unwrap();
+    assert!(
+        story.contains("-> MRCP/2.0 106 SPEAK 1\n   Channel-Identifier:"),
+        "{story}"
+    );
+    assert!(
+        story.contains("<- MRCP/2.0 70 1 200 IN-PROGRESS\n"),
+        "{story}"
+    );
+    assert!(
+        story.contains("refused 9: engine cause above 7\n"),
+        "{story}"
+    );
+    let lines: Vec<&str> = fates.lines().map(str::trim).collect();
+    let expected = [
+        "",
+        "channel 7f3a@speechsynth",
+        "1  spoken, 004 error",
+        "2  stopped by STOP 5",
+        "3  still held",
+        "4  not accepted, 409",
+    ];
+    assert_eq!(lines, expected, "{told}");
+}
