@@ -1,10 +1,10 @@
 -- Responses and events of a channel: document 01, "Bytes written" and "States and queue".
-use Prim.Native.Nat.{ℕ, suc, zero}
+use Prim.Native.Nat.{ℕ}
 use mathlib.Core.List.{List, [], _∷_, _++_}
 use lib.ListN.{getD}
 use Rattle.octets.specs.Octets.{bytes}
 use Rattle.writers.specs.Decimal.{threeDigits}
-use Rattle.message.specs.Message.{Start, Field, Message}
+use Rattle.message.specs.Message.{Field, Message}
 use Rattle.message.specs.Message as M
 use Rattle.message.specs.declared.RequestState.{RequestState}
 use Rattle.message.specs.declared.RequestState.the-variants.{Complete}

@@ -1,7 +1,6 @@
 -- A list of request-ids as a field's value has it: document 01, judgement 6 and "Bytes written".
 use Prim.Native.Nat.{ℕ}
-use mathlib.Core.Bool.{Bool, true, false}
-use mathlib.Core.Option.{Option, none, some}
+use mathlib.Core.Bool.{Bool}
 use mathlib.Core.List.{List, [], _∷_, _++_, map}
 use Rattle.lists.specs.Lists.{all}
 use Rattle.octets.specs.Octets.{bytes}

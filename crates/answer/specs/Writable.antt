@@ -1,11 +1,10 @@
 -- The messages that reading gives back as they were written. Nothing here is about one kind of answer.
 use Prim.Native.Nat.{ℕ, _≤_, _<_}
 use mathlib.Core.Path.{_≡_}
-use mathlib.Core.Bool.{Bool, true, _&&_}
-use mathlib.Core.List.{List, []}
-use lib.Dec.{leb}
+use mathlib.Core.Bool.{true}
+use mathlib.Core.List.{List}
 use lib.ListN.{length}
-use Rattle.lists.specs.Lists.{all, isEmpty}
+use Rattle.lists.specs.Lists.{all}
 use Rattle.octets.specs.Octets.{isName, isValue}
 use Rattle.message.specs.Message.{Start, request, response, event, Field, Message}
 use Rattle.message.specs.StartLines.{isMethodName}
@@ -13,7 +12,7 @@ use Rattle.message.specs.Fields.{trimEnd}
 use Rattle.message.specs.Known.{onceEach, namesOf, valueOf}
 use Rattle.message.specs.Reading.{agrees}
 use Rattle.message.specs.declared.Known.the-variants.{ContentLength}
-use Rattle.lists.specs.Lists.{run, same, All}
+use Rattle.lists.specs.Lists.{run, All}
 use Rattle.octets.specs.Octets.{isBlank}
 use Rattle.answer.specs.Written.{written}
 

@@ -1,6 +1,6 @@
 -- The numbers with which reading refuses: 1 to 5. Assumes nothing.
 use Prim.Native.Nat.{ℕ, _≤_}
-use mathlib.Core.Path.{_≡_, refl}
+use mathlib.Core.Path.{_≡_}
 use mathlib.Core.List.{List}
 use native.Mathlib.Omega.{arith}
 use lib.ListN.{take}
@@ -10,7 +10,6 @@ use Rattle.framing.specs.declared.Framing.the-variants.{More, NoMessage, TooLon
 use Rattle.message.specs.Message.{Head, Reading, refused, message, part, onReading}
 use Rattle.message.specs.StartLines.{Started, started, startLine}
 use Rattle.message.specs.Reading.{readFrom, readFramed, reading, heard}
-use Rattle.message.specs.declared.Span.{Span}
 
 module _ (s : List ℕ) where
   -- a reading with a number of the table, and a message with none

@@ -6,10 +6,10 @@ use mathlib.Core.List.{List, [], _∷_, map}
 use lib.Dec.{eqb}
 use lib.ListN.{length, take, drop}
 use Rattle.readers.specs.Words.{isNumber, numberOf}
-use Rattle.framing.specs.Framing.{framing, refusal}
+use Rattle.framing.specs.Framing.{framing}
 use Rattle.framing.specs.declared.Framing.{Framing}
 use Rattle.framing.specs.declared.Framing.the-variants.{More, NoMessage, TooLong, TooShort, Frame}
-use Rattle.message.specs.Message.{Start, Field, Fields, bad, good, fieldsIn, Head, Reading, refused, message, Message, part, onField, onReading}
+use Rattle.message.specs.Message.{Field, Fields, bad, good, fieldsIn, Head, Reading, refused, message, Message, part, onField, onReading}
 use Rattle.message.specs.StartLines.{Started, started, startLine}
 use Rattle.message.specs.Fields.{Lines, lines, fieldLines}
 use Rattle.message.specs.Known.{onceEach, namesOf, valueOf}

@@ -7,7 +7,7 @@ use lib.Dec.{eqb, leb}
 use lib.ListN.{length, drop}
 use Rattle.lists.specs.Lists.{all, same}
 use Rattle.octets.specs.Octets.{bytes, isDigit, isCapital}
-use Rattle.readers.specs.Words.{line, words, numberOf, isNumber, isRequestId}
+use Rattle.readers.specs.Words.{line, words, numberOf, isRequestId}
 use Rattle.message.specs.Message.{Start, request, response, event}
 use Rattle.message.specs.declared.Span.{Span}
 use Rattle.message.specs.declared.RequestState.{RequestState}

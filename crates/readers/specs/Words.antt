@@ -1,5 +1,5 @@
 -- Bytes that are whole already: the line before a CRLF, words between single separators, and the number that a word writes.
-use Prim.Native.Nat.{ℕ, suc, zero, _+_, _-_, _*_}
+use Prim.Native.Nat.{ℕ, _+_, _-_, _*_}
 use mathlib.Core.Bool.{Bool, true, false, _&&_}
 use mathlib.Core.Option.{Option, none, some}
 use mathlib.Core.List.{List, [], _∷_}

@@ -1,19 +1,12 @@
 -- The ledger of a call, read from what it wrote, has the effect that the call has on the channel. Assumes nothing.
-use Prim.Native.Nat.{ℕ}
-use mathlib.Core.Path.{_≡_, ap, subst, sym, _∙_}
-use mathlib.Core.List.{List}
 use mathlib.Core.Logic.{⊎-elim}
 use native.Mathlib.Nat.{le-refl}
-use lib.ListN.{length}
-use Rattle.message.specs.Message.{Message}
-use Rattle.message.specs.Reading.{messagesIn}
-use Rattle.answer.specs.Written.{writtenAll}
 use Rattle.answer.proofs.Theorems.ListsReadBack.{all-back}
 use Rattle.ledger.specs.Ledger.{Turn}
 use Rattle.ledger.proofs.Effects.{Effect, nothing}
 use Rattle.synth.specs.Channel.{View, held, firstAbove}
-use Rattle.synth.specs.Calls.{Lent, Call, Reply, call}
-use Rattle.synth.specs.Demand3.{accepting, closing, collected, ledgerAccepts, ledgerCloses, accepts, closes}
+use Rattle.synth.specs.Calls.{Call, Reply, call}
+use Rattle.synth.specs.Demand3.{ledgerAccepts, ledgerCloses, accepts, closes}
 use Rattle.synth.proofs.Turns.{Refuses, Handles, call-law}
 
 module _ (v : View) (c : Call) (t : Turn View Reply) where

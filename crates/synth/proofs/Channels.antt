@@ -1,20 +1,17 @@
 -- What soundness says of a view, and what a channel's name is fit for. Assumes nothing.
-use Prim.Native.Nat.{ℕ, suc, zero, _+_, _≤_, _<_}
-use mathlib.Core.Path.{_≡_, refl, sym, ap, subst, _∙_}
-use mathlib.Core.Bool.{Bool, true, false, _&&_, Bool·beq, false≢true}
-use mathlib.Core.List.{List, [], _∷_, _++_, map}
+use Prim.Native.Nat.{ℕ, _≤_, _<_}
+use mathlib.Core.Path.{_≡_}
+use mathlib.Core.Bool.{true, Bool·beq}
+use mathlib.Core.List.{List, [], _∷_}
 use native.Mathlib.Nat.{le-trans}
-use native.Mathlib.Omega.{arith}
-use lib.Dec.{leb}
 use lib.ListN.{length, length-map}
 use borrow.Author.Tests.{leb-true, le-leb}
-use Rattle.lists.specs.Lists.{elem, isEmpty, Ascends, ascends, All, Split}
+use Rattle.lists.specs.Lists.{elem, isEmpty, Ascends, All, Split}
 use Rattle.lists.proofs.Tests.{both}
 use Rattle.lists.proofs.Membership.{elem-head, elem-tail}
 use Rattle.lists.proofs.Rising.{ascends-so, so-ascends, ascends-within}
 use Rattle.lists.proofs.Dealing.{split-elem, split-length}
 use Rattle.synth.specs.Channel.{View, wellNamed, held, isIdle, firstAbove, sound}
-use Rattle.synth.specs.declared.State.{State}
 
 abbrev pub Small : List ℕ → Type 0
 Small l = All (λ (id : ℕ). id < 4294967296) l

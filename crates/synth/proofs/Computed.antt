@@ -19,7 +19,7 @@ use Rattle.synth.specs.Channel.{View, wellNamed, sound}
 use Rattle.synth.specs.Request.{methodOf, acting, ignoresAny}
 use Rattle.synth.specs.Judgement.{_then_, unless, version, wellFormed, addressed, ours, above, legal, amongSix, valid, content, room, success, early, late}
 use Rattle.synth.specs.States.{act, judge}
-use Rattle.synth.specs.Calls.{Call, Reply, Lent, input, cause, deliver, call, openChannel}
+use Rattle.synth.specs.Calls.{Call, Reply, input, cause, deliver, call, openChannel}
 
 -- what a reader hears of bytes, and of a text
 unfoldable pub hearsBytes : List ℕ → Reading (List ℕ)

@@ -1,10 +1,9 @@
 -- Every judged request has a good outcome, method by method. Assumes nothing.
 use Prim.Native.Nat.{ℕ, _≤_, _<_}
-use mathlib.Core.Path.{_≡_, refl, sym, ap, _∙_}
+use mathlib.Core.Path.{_≡_, refl, ap}
 use mathlib.Core.Bool.{Bool, true, false, not, Bool·beq, false≢true}
 use mathlib.Core.Option.{Option}
-use mathlib.Core.List.{List, [], _∷_, map, tail}
-use lib.Dec.{leb, ltb}
+use mathlib.Core.List.{List, [], _∷_, tail}
 use lib.ListN.{length}
 use borrow.Author.Tests.{leb-true, ltb-true}
 use Rattle.lists.specs.Lists.{keep, isEmpty, Split, gone}
@@ -14,7 +13,7 @@ use Rattle.message.specs.declared.Known.the-variants.{ActiveRequestIdList}
 use Rattle.message.specs.declared.RequestState.the-variants.{Complete}
 use Rattle.synth.specs.Channel.{View, withLast, ids, held, isIdle, firstAbove}
 use Rattle.synth.specs.Request.{Request, isSpeak, acting}
-use Rattle.synth.specs.Judgement.{Verdict, passes, fails, _then_, unless, isValid, version, wellFormed, addressed, ours, above, legal, amongSix, valid, content, room, early, late}
+use Rattle.synth.specs.Judgement.{Verdict, passes, fails, isValid, above, valid, room, early, late}
 use Rattle.synth.specs.States.{succeeded, speak, whileAny, ends, stop, bargeIn, active, pause, resume, control, act, afterLate, afterEarly, judge}
 use Rattle.synth.specs.declared.State.{State}
 use Rattle.synth.specs.declared.State.the-variants.{Idle, Speaking, Paused}

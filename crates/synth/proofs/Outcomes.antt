@@ -1,16 +1,16 @@
 -- What every outcome of a judged request has, one lemma for each kind of outcome: failed, accepted, unchanged, ended. Assumes nothing.
-use Prim.Native.Nat.{ℕ, suc, _+_, _≤_, _<_}
-use mathlib.Core.Path.{_≡_, refl, sym, ap, subst, _∙_}
-use mathlib.Core.Bool.{Bool, true, false, _||_, _&&_, Bool·beq, and-false}
-use mathlib.Core.Option.{Option, none, some}
-use mathlib.Core.List.{List, [], _∷_, _++_, map, map-append, append-nil}
+use Prim.Native.Nat.{ℕ, suc, _≤_, _<_}
+use mathlib.Core.Path.{_≡_, refl}
+use mathlib.Core.Bool.{Bool, true, false, _||_, Bool·beq, and-false}
+use mathlib.Core.Option.{Option, some}
+use mathlib.Core.List.{List, [], _∷_, _++_, map-append, append-nil}
 use native.Mathlib.Nat.{le-refl}
 use native.Mathlib.Omega.{arith}
 use lib.Dec.{eqb, lit<}
 use lib.ListN.{length, length-append, length-map}
-use Rattle.lists.specs.Lists.{isEmpty, Ascends, All, Split}
+use Rattle.lists.specs.Lists.{isEmpty, All, Split}
 use Rattle.lists.proofs.Rising.{ascends-append, ascends-to}
-use Rattle.lists.proofs.Dealing.{split-none, split-ascends, split-swap}
+use Rattle.lists.proofs.Dealing.{split-ascends, split-swap}
 use Rattle.message.specs.Message.{Message}
 use Rattle.message.specs.declared.RequestState.{RequestState}
 use Rattle.message.specs.declared.RequestState.the-variants.{Complete}
@@ -21,16 +21,16 @@ use Rattle.answer.proofs.Theorems.IdListReadBack.{id-list-back}
 use Rattle.answer.proofs.Theorems.AnswersWritable.{NameFits, response-writable, no-list, the-list}
 use Rattle.answer.proofs.Theorems.LongestAnswer.{longest-complete, longest-bare}
 use Rattle.ledger.proofs.Effects.{Effect, nothing, one-joins, some-end}
-use Rattle.synth.specs.Channel.{View, withLast, withQueue, ids, held, isIdle, firstAbove, sound}
+use Rattle.synth.specs.Channel.{View, withLast, ids, held, isIdle, firstAbove}
 use Rattle.synth.specs.Request.{Request, isSpeak, ignoresAny}
 use Rattle.synth.specs.Judgement.{success}
 use Rattle.synth.specs.States.{Outcome, failed, succeeded, joined}
-use Rattle.synth.specs.Demand3.{Asked, succeeds, listed, when, acceptedBy, isEnding, closedBy, collected}
+use Rattle.synth.specs.Demand3.{Asked, succeeds, listed, acceptedBy, isEnding, closedBy, collected}
 use Rattle.synth.specs.declared.State.{State}
 use Rattle.synth.specs.declared.Method.{Method}
 use Rattle.synth.specs.declared.Entry.{Entry}
 use Rattle.synth.specs.declared.LastId.the-variants.{Seen}
-use Rattle.synth.proofs.Channels.{Small, Facts, dealt-small, dealt-few}
+use Rattle.synth.proofs.Channels.{Facts, dealt-small, dealt-few}
 use Rattle.synth.proofs.Verdicts.{Failure}
 use Rattle.synth.proofs.Names.{name-fits}
 

@@ -1,10 +1,7 @@
 -- What each method makes of a paused channel: only RESUME has it speak. Assumes nothing.
-use Prim.Native.Nat.{ℕ}
-use mathlib.Core.Path.{_≡_, refl, sym, ap, _∙_}
-use mathlib.Core.Bool.{Bool, true, false, not}
-use mathlib.Core.Option.{Option}
+use mathlib.Core.Path.{_≡_}
+use mathlib.Core.Bool.{not}
 use mathlib.Core.List.{List, [], _∷_}
-use native.Mathlib.Omega.{arith}
 use Rattle.lists.specs.Lists.{keep}
 use Rattle.lists.proofs.Tests.{choose}
 use Rattle.message.specs.declared.Known.the-variants.{ActiveRequestIdList}

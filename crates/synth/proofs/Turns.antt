@@ -13,7 +13,7 @@ use Rattle.lists.specs.Lists.{All, gone}
 use Rattle.lists.proofs.Tests.{choose}
 use Rattle.lists.proofs.Membership.{elem-head}
 use Rattle.lists.proofs.Dealing.{split-none, split-ascends, split-swap}
-use Rattle.message.specs.Message.{Message, Start, Reading, Head, Fields, refused, message, request, response, event}
+use Rattle.message.specs.Message.{Message, Reading, refused, message, request, response, event}
 use Rattle.message.specs.Reading.{heard}
 use Rattle.message.proofs.Refusals.{refused-number}
 use Rattle.message.proofs.Theorems.IdsInRange.{id-heard}
@@ -25,15 +25,15 @@ use Rattle.answer.proofs.Theorems.LongestAnswer.{longest-event}
 use Rattle.ledger.specs.Ledger.{Turn}
 use Rattle.ledger.proofs.Effects.{Effect, some-end}
 use Rattle.synth.specs.Channel.{View, ids, held, firstAbove, sound}
-use Rattle.synth.specs.Request.{methodOf, requestOf}
-use Rattle.synth.specs.States.{Outcome, judge, whileAny, completed}
+use Rattle.synth.specs.Request.{requestOf}
+use Rattle.synth.specs.States.{Outcome, judge, completed}
 use Rattle.synth.specs.Calls.{Lent, input, cause, Call, Reply, refuse, deliver, answer, reported, onSound, call}
 use Rattle.synth.specs.Demand3.{askedBy, acceptedBy, closedBy, accepting, closing, collected}
 use Rattle.synth.specs.declared.State.{State}
 use Rattle.synth.specs.declared.State.the-variants.{Idle, Speaking, Paused}
 use Rattle.synth.specs.declared.Entry.{Entry}
 use Rattle.synth.proofs.Channels.{Facts, sound-facts, facts-sound, held-small}
-use Rattle.synth.proofs.Outcomes.{Good, alone-short}
+use Rattle.synth.proofs.Outcomes.{alone-short}
 use Rattle.synth.proofs.Methods.{judge-good, while-agrees}
 use Rattle.synth.proofs.Names.{name-fits}
 

@@ -1,10 +1,10 @@
 -- Opening, client message and engine report: document 01, "Refusal numbers".
 use Prim.Native.Nat.{ℕ}
-use mathlib.Core.Bool.{Bool, true, false}
+use mathlib.Core.Bool.{true, false}
 use mathlib.Core.List.{List, [], _∷_}
-use lib.Dec.{leb, ltb}
+use lib.Dec.{ltb}
 use lib.ListN.{length}
-use Rattle.message.specs.Message.{Start, Fields, Head, Reading, refused, message, request, response, event}
+use Rattle.message.specs.Message.{Reading, refused, message, request, response, event}
 use Rattle.message.specs.Reading.{heard}
 use Rattle.answer.specs.Written.{writtenAll}
 use Rattle.ledger.specs.Ledger.{Turn}

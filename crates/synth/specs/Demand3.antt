@@ -11,7 +11,7 @@ use Rattle.message.specs.Known.{valueOf}
 use Rattle.message.specs.Reading.{heard, messagesIn}
 use Rattle.message.specs.declared.Known.the-variants.{ActiveRequestIdList}
 use Rattle.answer.specs.IdList.{idsOf}
-use Rattle.ledger.specs.Ledger.{Seen, Balanced, Run, Turn, after, trace}
+use Rattle.ledger.specs.Ledger.{Seen, Balanced, Run, after, trace}
 use Rattle.synth.specs.Channel.{View, held}
 use Rattle.synth.specs.Request.{methodOf, isSpeak}
 use Rattle.synth.specs.Calls.{Lent, input, cause, Call, Reply, call, openChannel}

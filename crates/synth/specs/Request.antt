@@ -1,9 +1,8 @@
 -- A request as the judgement sees it: its method, and which fields act there (document 01, "Fields").
 use Prim.Native.Nat.{ℕ}
-use mathlib.Core.Bool.{Bool, true, false, _&&_, _||_, not}
-use mathlib.Core.Option.{Option, none, some}
-use mathlib.Core.List.{List, [], _∷_}
-use lib.Dec.{eqb}
+use mathlib.Core.Bool.{Bool, true, false, not}
+use mathlib.Core.Option.{Option, none}
+use mathlib.Core.List.{List, []}
 use Rattle.lists.specs.Lists.{all, same}
 use Rattle.octets.specs.Octets.{bytes}
 use Rattle.message.specs.Message.{Fields, bad, good, fieldsIn, Head}

@@ -3,10 +3,10 @@
 -- bytes written is in balance: no id accepted twice, none closed twice, none closed before it was accepted, and those accepted and not closed
 -- are, in order of acceptance, exactly the ones the channel holds. Assumes nothing.
 use Prim.Native.Nat.{ℕ}
-use mathlib.Core.Path.{_≡_, refl, ap, sym, _∙_}
+use mathlib.Core.Path.{_≡_, refl, ap, _∙_}
 use mathlib.Core.List.{List, []}
 use Rattle.lists.proofs.Tests.{choose}
-use Rattle.ledger.specs.Ledger.{Seen, Run, Balanced, after, trace}
+use Rattle.ledger.specs.Ledger.{after, trace}
 use Rattle.ledger.proofs.Effects.{Effect}
 use Rattle.ledger.proofs.Runs.{trace-run}
 use Rattle.ledger.proofs.Theorems.Balance.{balance}

@@ -2,21 +2,20 @@
 -- request is a RESUME. Assumes nothing.
 use Prim.Native.Nat.{ℕ}
 use mathlib.Core.Path.{_≡_, refl, sym, subst, _∙_}
-use mathlib.Core.Bool.{true, false}
 use mathlib.Core.Option.{some}
-use mathlib.Core.List.{List, [], _∷_}
+use mathlib.Core.List.{List}
 use lib.Dec.{ltb}
 use lib.ListN.{length}
 use Rattle.lists.proofs.Tests.{choose}
-use Rattle.message.specs.Message.{Reading, Head, Fields, refused, message, request, response, event}
+use Rattle.message.specs.Message.{Reading, refused, message, request, response, event}
 use Rattle.message.specs.Reading.{heard}
 use Rattle.answer.specs.Written.{writtenAll}
 use Rattle.ledger.specs.Ledger.{Turn}
 use Rattle.synth.specs.Channel.{View, sound}
 use Rattle.synth.specs.Request.{methodOf, requestOf}
-use Rattle.synth.specs.States.{Outcome, judge}
-use Rattle.synth.specs.Calls.{Lent, input, cause, Call, Reply, refuse, deliver, answer, reported, onSound, call}
-use Rattle.synth.specs.Demand3.{Asked, askedBy}
+use Rattle.synth.specs.States.{judge}
+use Rattle.synth.specs.Calls.{Lent, input, cause, Call, Reply, deliver, answer, reported, onSound, call}
+use Rattle.synth.specs.Demand3.{askedBy}
 use Rattle.synth.specs.declared.State.{State}
 use Rattle.synth.specs.declared.State.the-variants.{Idle, Speaking, Paused}
 use Rattle.synth.specs.declared.Method.{Method}

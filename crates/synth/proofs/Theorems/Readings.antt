@@ -6,12 +6,11 @@ use mathlib.Core.Path.{_≡_, refl}
 use mathlib.Core.Bool.{true}
 use mathlib.Core.List.{List, [], _∷_, map}
 use Rattle.octets.specs.Octets.{bytes}
-use Rattle.message.specs.Message.{Start, request, response, event, Reading, refused, message}
+use Rattle.message.specs.Message.{request, response, event, Reading, refused, message}
 use Rattle.synth.specs.Channel.{View}
 use Rattle.synth.specs.Calls.{Reply}
 use Rattle.synth.specs.declared.State.{State}
 use Rattle.synth.specs.declared.State.the-variants.{Speaking, Paused}
-use Rattle.synth.specs.declared.Entry.{Entry}
 use Rattle.synth.specs.declared.LastId.the-variants.{Seen}
 use Rattle.synth.proofs.Computed.{opened, lends, replies, leaves, hearsBytes}
 

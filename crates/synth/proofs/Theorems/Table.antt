@@ -7,9 +7,8 @@ use mathlib.Core.List.{List, [], _∷_, _++_, map}
 use lib.ListN.{length}
 use Rattle.octets.specs.Octets.{bytes}
 use Rattle.synth.specs.Channel.{View}
-use Rattle.synth.specs.Calls.{Call, Reply}
+use Rattle.synth.specs.Calls.{Reply}
 use Rattle.synth.specs.declared.State.the-variants.{Speaking}
-use Rattle.synth.specs.declared.Entry.{Entry}
 use Rattle.synth.specs.declared.LastId.the-variants.{Seen}
 use Rattle.synth.proofs.Computed.{opened, lends, reports, replies}
 
