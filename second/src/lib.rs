@@ -3,6 +3,7 @@
 //! One module for each section of the paper. Nothing here knows of the other
 //! implementation; the two are compared by the lines that they write.
 
+pub mod bench;
 pub mod channel;
 pub mod fields;
 pub mod framing;

@@ -5,6 +5,7 @@ use std::fs::File;
 use std::io::{self, BufRead, BufReader, BufWriter, Write};
 use std::process::ExitCode;
 
+use second::bench;
 use second::gen::{self, Kind};
 use second::play::play;
 use second::script::Trouble;
@@ -12,7 +13,8 @@ use second::tell::tell;
 
 const USAGE: &str = "usage: second play [FILE]
        second gen SEED COUNT [frame|read|calls|all]
-       second tell [FILE]";
+       second tell [FILE]
+       second bench CASE COUNT";
 
 /// Unreadable lines, and arguments that are none of the above.
 const UNREADABLE: u8 = 2;
@@ -31,7 +33,18 @@ fn main() -> ExitCode {
         ["tell", file] => run(tell, Some(file)),
         ["gen", seed, count] => generate(seed, count, "all"),
         ["gen", seed, count, kind] => generate(seed, count, kind),
+        ["bench", case, count] => measured(case, count),
         _ => usage(),
+    }
+}
+
+fn measured(case: &str, count: &str) -> ExitCode {
+    match count.parse().ok().and_then(|count| bench::run(case, count)) {
+        None => usage(),
+        Some(sum) => {
+            println!("{sum}");
+            ExitCode::SUCCESS
+        }
     }
 }
 

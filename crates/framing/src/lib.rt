@@ -1,4 +1,8 @@
 // Cutting lent bytes into messages: document 01, "Framing".
+ghost use mathlib.Core.Path.{_≡_};
+ghost use lib.ListN.{take};
+ghost use Rattle.framing.specs.Framing.{framing, measured, frameLength};
+ghost use Rattle.framing.specs.Steps.{textAfter, numberAfter, valueOf};
 
 // What an opening says: the version, and the length of the whole message.
 pub struct Opening {
@@ -15,4 +19,92 @@ pub enum Framing {
     TooShort,
     // Version, and the lengths of the opening and of the frame.
     Frame(u64, u64, usize, usize),
+}
+
+// A text behind a number: a step that does nothing where the one before it found nothing, so that the steps need no branches between them.
+fn text_after(s: &[u8], n: readers::Scan, t: &[u8]) -> readers::Place
+    ensures { λ r. ⌜ r ≡ textAfter (now (s .entry)) n (now (t .entry)) ⌝ }
+{
+    match n {
+        readers::Scan::Short => readers::Place::Short,
+        readers::Scan::Wrong => readers::Place::Wrong,
+        readers::Scan::Got(_, at) => readers::text(s, at, t),
+    }
+}
+
+// A number behind a text, likewise.
+fn number_after(s: &[u8], p: readers::Place, max: usize) -> readers::Scan
+    ensures { λ r. ⌜ r ≡ numberAfter (now (s .entry)) p max ⌝ }
+{
+    match p {
+        readers::Place::Short => readers::Scan::Short,
+        readers::Place::Wrong => readers::Scan::Wrong,
+        readers::Place::At(at) => readers::number(s, at, max),
+    }
+}
+
+fn value(n: readers::Scan) -> u64
+    ensures { λ r. ⌜ r ≡ valueOf n ⌝ }
+{
+    match n {
+        readers::Scan::Short => 0,
+        readers::Scan::Wrong => 0,
+        readers::Scan::Got(v, _) => v,
+    }
+}
+
+// With an opening of `k` bytes, where `lent` bytes are there: 3, then 4, then 1. The numbers come singly: as a struct they would go through memory.
+fn measure(major: u64, minor: u64, stated: u64, k: usize, lent: usize) -> Framing
+    ensures { λ r. ⌜ r ≡ measured (record { major = major; minor = minor; stated = stated }) k lent ⌝ }
+{
+    if 16384 < stated {
+        return Framing::TooLong;
+    }
+    let n = stated as usize;
+    if n < k {
+        return Framing::TooShort;
+    }
+    if lent < n {
+        return Framing::More;
+    }
+    Framing::Frame(major, minor, k, n)
+}
+
+// Where the message at the front of `s` ends. It looks at 31 bytes at most.
+pub fn frame(s: &[u8]) -> Framing
+    ensures { λ r. ⌜ r ≡ framing (now (s .entry)) ⌝ }
+{
+    let mrcp = readers::text(s, 0, b"MRCP/");
+    let major = number_after(s, mrcp, 2);
+    let dot = text_after(s, major, b".");
+    let minor = number_after(s, dot, 2);
+    let space = text_after(s, minor, b" ");
+    let stated = number_after(s, space, 19);
+    let end = text_after(s, stated, b" ");
+    match end {
+        readers::Place::Short => Framing::More,
+        readers::Place::Wrong => Framing::NoMessage,
+        readers::Place::At(k) => measure(value(major), value(minor), value(stated), k, s.len()),
+    }
+}
+
+fn frame_length(f: Framing) -> usize
+    ensures { λ r. ⌜ r ≡ frameLength f ⌝ }
+{
+    match f {
+        Framing::More => 0,
+        Framing::NoMessage => 0,
+        Framing::TooLong => 0,
+        Framing::TooShort => 0,
+        Framing::Frame(_, _, _, n) => n,
+    }
+}
+
+// The message at the front of `s`, as a part of it; empty where there is no frame.
+pub fn frame_part(s: &[u8]) -> &[u8]
+    ensures { λ r. ⌜ now r ≡ take (frameLength (framing (now (s .entry)))) (now (s .entry)) ⌝ }
+{
+    let f = frame(s);
+    let n = frame_length(f);
+    &s[..n]
 }

@@ -49,7 +49,7 @@ judged-lines f at (lines fs b) (r, l, n) = go (onceIn && agreesIn) refl
     go true e = rw (e, judged) (let (o, a) = both onceIn agreesIn e in record { rows = r; ends = omega arith; few = n; once = o; agreed = a })
     go false e = rw (e, judged) tt
 
-fields-from : (f : List ℕ) (at : ℕ) → Judged f at (fieldsFrom f at)
+pub fields-from : (f : List ℕ) (at : ℕ) → Judged f at (fieldsFrom f at)
 unfolding fieldsFrom
 fields-from f at = judged-lines f at (fieldLines 32 f at) (laid 32 f at)
 

@@ -1,5 +1,5 @@
 -- What each of the 256 bytes may be (document 01, "Fields"), letters without case, and an ASCII text as its bytes.
-use Prim.Native.Nat.{ℕ, _+_}
+use Prim.Native.Nat.{ℕ, zero, suc, _+_}
 use Prim.Native.Char.{code}
 use Prim.Native.String.{String}
 use Prim.Native.String as Str
@@ -53,3 +53,11 @@ lowered b = elim (isCapital b) [ true ↦ b + 32 | false ↦ b ]
 
 abbrev pub lower : List ℕ → List ℕ
 lower l = map lowered l
+
+abbrev pub from {ℓ} : {A : Type ℓ} → (ℕ → A) → ℕ → ℕ → List A
+from f i zero = []
+from f i (suc n) = f i ∷ from f (suc i) n
+
+-- the table of 256 byte classes
+abbrev pub classes : List ℕ
+classes = from classOf 0 256

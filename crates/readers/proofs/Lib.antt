@@ -1,4 +1,5 @@
 pub mod Steps
+pub mod Scanning
 pub mod Fair
 pub mod Spelled
 pub mod Decimals

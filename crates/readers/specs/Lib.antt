@@ -1,2 +1,3 @@
 pub mod Readers
 pub mod Words
+pub mod Steps

@@ -1,0 +1,26 @@
+-- The steps by which the code reads an opening: each takes what the step before it found, and reads nothing where that found nothing.
+use Prim.Native.Nat.{ℕ}
+use mathlib.Core.List.{List}
+use lib.ListN.{drop}
+use Rattle.readers.specs.Readers.{text, number}
+use Rattle.readers.specs.Steps.{placed, scanned, oneTo19}
+use Rattle.readers.specs.declared.Place.{Place}
+use Rattle.readers.specs.declared.Scan.{Scan}
+
+-- a text behind a number
+abbrev pub textAfter : List ℕ → Scan → List ℕ → Place
+textAfter s Scan.Short t = Place.Short
+textAfter s Scan.Wrong t = Place.Wrong
+textAfter s (Scan.Got v at) t = placed at (text t (drop at s))
+
+-- a number behind a text
+abbrev pub numberAfter : List ℕ → Place → ℕ → Scan
+numberAfter s Place.Short max = Scan.Short
+numberAfter s Place.Wrong max = Scan.Wrong
+numberAfter s (Place.At at) max = scanned at (number (oneTo19 max) (drop at s))
+
+-- the number that was read
+abbrev pub valueOf : Scan → ℕ
+valueOf Scan.Short = 0
+valueOf Scan.Wrong = 0
+valueOf (Scan.Got v at) = v

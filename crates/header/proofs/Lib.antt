@@ -1,0 +1,15 @@
+pub mod Runs
+pub mod Classed
+pub mod Numerals
+pub mod Texts
+pub mod Names
+pub mod Places
+pub mod Masks
+pub mod ByRuns
+pub mod Lining
+pub mod Marks
+pub mod Values
+pub mod Gathering
+pub mod Stepping
+pub mod Onward
+pub mod Theorems

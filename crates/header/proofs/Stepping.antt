@@ -1,0 +1,88 @@
+-- A line judged on the way: what the code's cases say of the definition's line, and the other way round.
+-- Assumes nothing.
+use mathlib.Core.Path.{_≡_, refl, sym, ap, _∙_}
+use mathlib.Core.Bool.{Bool, true, false}
+use mathlib.Core.List.{List}
+use Prim.Native.Nat.{ℕ}
+use native.Mathlib.Omega.{arith}
+use Rattle.message.specs.Message as M
+use Rattle.message.specs.Message.{part}
+use Rattle.message.specs.Fields as F
+use Rattle.message.specs.Fields.{empty, field}
+use Rattle.message.specs.Known.{knownOf}
+use Rattle.message.specs.declared.Span.{Span}
+use Rattle.message.specs.declared.Known.{Known}
+use Rattle.header.specs.Header.{fieldOf}
+use Rattle.header.specs.Steps.{lineOf, mayCome, stepOf}
+use Rattle.header.specs.declared.Field.{Field}
+use Rattle.header.specs.declared.Line.{Line}
+use Rattle.header.specs.declared.Step.{Step}
+use Rattle.header.proofs.Values.{asField}
+
+told-malformed : (l : F.Line) → lineOf l ≡ Line.Malformed → l ≡ F.Line.malformed
+told-malformed F.Line.malformed e = refl
+told-malformed (empty n) e = let d : _≡_ {A = ℕ} 0 1 = cc in absurd (omega arith)
+told-malformed (field x n) e = let d : _≡_ {A = ℕ} 0 1 = cc in absurd (omega arith)
+
+told-empty : (l : F.Line) (n : ℕ) → lineOf l ≡ Line.Empty n → l ≡ empty n
+told-empty F.Line.malformed n e = let d : _≡_ {A = ℕ} 0 1 = cc in absurd (omega arith)
+told-empty (empty m) n e = let q : m ≡ n = cc in ap empty q
+told-empty (field x m) n e = let d : _≡_ {A = ℕ} 0 1 = cc in absurd (omega arith)
+
+told-field : (l : F.Line) (x : Field) (n : ℕ) → lineOf l ≡ Line.Field x n → l ≡ field (asField x) n
+told-field F.Line.malformed x n e = let d : _≡_ {A = ℕ} 0 1 = cc in absurd (omega arith)
+told-field (empty m) x n e = let d : _≡_ {A = ℕ} 0 1 = cc in absurd (omega arith)
+told-field (field y m) x n e = let q : m ≡ n = cc in let p : fieldOf y ≡ x = cc in ap (field y) q ∙ ap (λ z. field (asField z) n) p
+
+module _ (n mask : ℕ) (f : List ℕ) (l : F.Line) where
+  -- what a step is, by the line r that the code found
+  module _ (r : Line) (e : r ≡ lineOf l) where
+    pub step-malformed : r ≡ Line.Malformed → Step.Bad ≡ stepOf n mask f l
+    step-malformed h = sym (ap (stepOf n mask f) (told-malformed l (sym e ∙ h)))
+
+    pub step-empty : (b : ℕ) → r ≡ Line.Empty b → Step.End b ≡ stepOf n mask f l
+    step-empty b h = sym (ap (stepOf n mask f) (told-empty l b (sym e ∙ h)))
+
+    pub step-field : (x : Field) (next : ℕ) → r ≡ Line.Field x next → (k : Known) → k ≡ knownOf (part f (x .name)) → (t : Bool) → t ≡ mayCome n mask k
+        → elim t [ true ↦ Step.Field x k next | false ↦ Step.Bad ] ≡ stepOf n mask f l
+    step-field x next h k ek t et =
+        ap {B = Step} (λ t. elim t [ true ↦ Step.Field x k next | false ↦ Step.Bad ]) et
+        ∙ ap {B = Step} (λ k. elim (mayCome n mask k) [ true ↦ Step.Field x k next | false ↦ Step.Bad ]) ek
+        ∙ sym (ap (stepOf n mask f) (told-field l x next (sym e ∙ h)))
+
+-- what the line is, by the step
+module _ (n mask : ℕ) (f : List ℕ) where
+  abbrev pub judgedStep : M.Field Span → ℕ → Bool → Step
+  judgedStep y m t = elim t [ true ↦ Step.Field (fieldOf y) (knownOf (part f (y .name))) m | false ↦ Step.Bad ]
+
+  never-end : (y : M.Field Span) (m b : ℕ) (t : Bool) → judgedStep y m t ≡ Step.End b → ⊥
+  never-end y m b true e = let d : _≡_ {A = ℕ} 0 1 = cc in omega arith
+  never-end y m b false e = let d : _≡_ {A = ℕ} 0 1 = cc in omega arith
+
+  pub line-end : (l : F.Line) (b : ℕ) → stepOf n mask f l ≡ Step.End b → l ≡ empty b
+  line-end F.Line.malformed b e = let d : _≡_ {A = ℕ} 0 1 = cc in absurd (omega arith)
+  line-end (empty m) b e = let q : m ≡ b = cc in ap empty q
+  line-end (field y m) b e = absurd (never-end y m b (mayCome n mask (knownOf (part f (y .name)))) e)
+
+  -- a field that may come
+  pub record Comes (l : F.Line) (x : Field) (k : Known) (next : ℕ) : Type 0 where
+    pub at-line : l ≡ field (asField x) next
+    pub with-name : k ≡ knownOf (part f (x .name))
+    pub may : true ≡ mayCome n mask k
+
+  pub line-field : (l : F.Line) (x : Field) (k : Known) (next : ℕ) → stepOf n mask f l ≡ Step.Field x k next → Comes l x k next
+  line-field F.Line.malformed x k next e = let d : _≡_ {A = ℕ} 0 1 = cc in absurd (omega arith)
+  line-field (empty m) x k next e = let d : _≡_ {A = ℕ} 0 1 = cc in absurd (omega arith)
+  line-field (field y m) x k next e = go (mayCome n mask (knownOf (part f (y .name)))) refl e
+    where
+      go : (t : Bool) → mayCome n mask (knownOf (part f (y .name))) ≡ t → judgedStep y m t ≡ Step.Field x k next → Comes (field y m) x k next
+      go true q e =
+          let p : fieldOf y ≡ x = cc in
+          let name : knownOf (part f (y .name)) ≡ k = cc in
+          let far : m ≡ next = cc in
+          record {
+            at-line = ap (field y) far ∙ ap (λ z. field (asField z) next) p;
+            with-name = sym name ∙ ap (λ (z : Field). knownOf (part f (z .name))) p;
+            may = sym q ∙ ap (mayCome n mask) name;
+          }
+      go false q e = let d : _≡_ {A = ℕ} 0 1 = cc in absurd (omega arith)

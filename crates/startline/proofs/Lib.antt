@@ -1,0 +1,6 @@
+pub mod Positions
+pub mod Said
+pub mod Fronts
+pub mod FirstWord
+pub mod Judged
+pub mod LastWord

@@ -1,0 +1,3 @@
+pub mod StartLine
+pub mod Runs
+pub mod Rules

@@ -1,0 +1,75 @@
+#define _POSIX_C_SOURCE 200809L
+#include "script.h"
+
+#include <stdlib.h>
+#include <string.h>
+#include <sys/types.h>
+
+void script_unreadable(const struct script *s, const char *why) {
+  fflush(stdout);
+  fprintf(stderr, "play: line %lu: %s\n", s->line, why);
+  exit(2);
+}
+
+/* the line without its comment, the spaces in front of that, and its line end */
+static void strip(struct script *s, size_t length) {
+  if (length > 0 && s->text[length - 1] == '\n') s->text[--length] = 0;
+  if (memchr(s->text, '\r', length) || strlen(s->text) != length) script_unreadable(s, "a byte that no script has");
+  char *comment = strchr(s->text, '#');
+  if (!comment) return;
+  while (comment > s->text && comment[-1] == ' ') comment--;
+  *comment = 0;
+}
+
+static void take_apart(struct script *s) {
+  char *at = s->text;
+  s->words = 0;
+  for (;;) {
+    if (s->words == MOST_WORDS) script_unreadable(s, "too many words");
+    s->word[s->words++] = at;
+    char *space = strchr(at, ' ');
+    if (space) *space = 0;
+    if (*s->word[s->words - 1] == 0) script_unreadable(s, "words are parted by one space");
+    if (!space) return;
+    at = space + 1;
+  }
+}
+
+int script_next(struct script *s) {
+  ssize_t length;
+  while ((length = getline(&s->text, &s->room, s->from)) >= 0) {
+    s->line++;
+    strip(s, (size_t)length);
+    if (*s->text == 0) continue;
+    take_apart(s);
+    return 1;
+  }
+  return 0;
+}
+
+static int digit(char c) {
+  if (c >= '0' && c <= '9') return c - '0';
+  if (c >= 'a' && c <= 'f') return c - 'a' + 10;
+  return -1;
+}
+
+size_t script_bytes(const struct script *s, const char *word, unsigned char *bytes) {
+  if (strcmp(word, "-") == 0) return 0;
+  size_t length = strlen(word);
+  if (length % 2 || length > 2 * (size_t)MOST_BYTES) script_unreadable(s, "bytes are pairs of hexadecimal digits");
+  for (size_t i = 0; i < length / 2; i++) {
+    int high = digit(word[2 * i]), low = digit(word[2 * i + 1]);
+    if (high < 0 || low < 0) script_unreadable(s, "bytes are pairs of lower-case hexadecimal digits");
+    bytes[i] = (unsigned char)(16 * high + low);
+  }
+  return length / 2;
+}
+
+void script_write(const unsigned char *bytes, size_t count) {
+  static const char digits[] = "0123456789abcdef";
+  if (count == 0) putchar('-');
+  for (size_t i = 0; i < count; i++) {
+    putchar(digits[bytes[i] >> 4]);
+    putchar(digits[bytes[i] & 15]);
+  }
+}
