@@ -3,7 +3,7 @@
 # make build    the proved library, the host programs over it, the second program
 # make bench    instructions per call, against the second program
 SECOND = target/second/release/second
-LIBRARY = target/staticlib/libfirmware.a
+LIBRARY = target/staticlib/libfirmware.a target/staticlib/libwriting.a
 CFLAGS = -std=c99 -O2 -Wall -Wextra -Werror -Iinclude
 HOST = host/lend.c host/script.c
 
@@ -16,6 +16,7 @@ build: library host second
 
 library:
 	@rt staticlib firmware
+	@rt staticlib writing
 
 # after the library: `make build`, or the gate, makes both
 host:

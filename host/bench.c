@@ -5,6 +5,7 @@
 #include <string.h>
 
 #include "../include/klarvesimo.h"
+#include "writing.h"
 
 enum { MOST = 20000 };
 
@@ -17,17 +18,18 @@ static void put(const char *text) {
   length += n;
 }
 
-/* a message of exactly `size` bytes: the head, then fields, then a body that fills it */
-static void speak(const char *fields, size_t body, const char *size) {
-  char line[64];
+/* a message of `size` bytes, filled by its body */
+static void speak(const char *fields, const char *size, const char *body) {
   put("MRCP/2.0 ");
   put(size);
   put(" SPEAK 7\r\nChannel-Identifier:7f3a@speechsynth\r\nContent-Type:text/plain\r\n");
   put(fields);
-  snprintf(line, sizeof line, "Content-Length:%zu\r\n\r\n", body);
-  put(line);
-  memset(message + length, 'H', body);
-  length += body;
+  put("Content-Length:");
+  put(body);
+  put("\r\n\r\n");
+  size_t whole = (size_t)atol(size);
+  memset(message + length, 'H', whole - length);
+  length = whole;
 }
 
 static const char SEVENTEEN[] =
@@ -43,34 +45,55 @@ static int make(const char *name) {
     memset(message + length, 'H', 16384 - length);
     length = 16384;
   } else if (strcmp(name, "read-3") == 0) {
-    speak("", 2, "106");
+    speak("", "106", "2");
   } else if (strcmp(name, "read-20") == 0) {
-    speak(SEVENTEEN, 2, "463");
+    speak(SEVENTEEN, "463", "2");
+  } else if (strcmp(name, "read-2") == 0) {
+    speak("", "00112", "00002");
   } else if (strcmp(name, "read-16000") == 0) {
-    speak("", 16000, "16110");
+    speak("", "16110", "16000");
   } else {
     return 0;
   }
   return 1;
 }
 
-int main(int words, char **word) {
+/* the sum of the lengths that `count` calls give; a refused call ends the program */
+static uint64_t reads(int frames, long count) {
   uint64_t out[KLARVESIMO_MOST], consumed = 0, sum = 0;
-  if (words != 3 || !make(word[1])) {
-    fputs("usage: bench frame-31|frame-16384|read-3|read-20|read-16000 COUNT\n", stderr);
-    return 2;
-  }
-  long count = atol(word[2]);
-  int frames = word[1][0] == 'f';
   for (long i = 0; i < count; i++) {
     uint32_t n = frames ? klarvesimo_frame(message, length, out, KLARVESIMO_MOST)
                         : klarvesimo_read(message, length, out, KLARVESIMO_MOST, &consumed);
-    if (n != 0) {
-      fprintf(stderr, "bench: refused with %" PRIu32 "\n", n);
-      return 1;
-    }
-    sum += out[KLARVESIMO_FRAME_LENGTH];
+    if (n != 0) exit(1);
+    sum += frames ? out[KLARVESIMO_FRAME_LENGTH] : consumed;
   }
+  return sum;
+}
+
+/* the answer of T8, or the longest one */
+static uint64_t writes(int longest, long count) {
+  const char *name = longest ? "0123456789abcdef0123456789abcdef@speechsynth" : "7f3a@speechsynth";
+  size_t listed = longest ? 16 : 0;
+  uint32_t ids[16], id = longest ? UINT32_MAX : 7;
+  uint64_t written = 0, sum = 0;
+  static uint8_t out[305];
+  for (uint32_t i = 0; i < 16; i++) ids[i] = UINT32_MAX - 16 + i;
+  klarvesimo_responder *respond = longest ? klarvesimo_write_complete : klarvesimo_write_in_progress;
+  for (long i = 0; i < count; i++) {
+    if (respond((const uint8_t *)name, strlen(name), id, 200, ids, listed, out, sizeof out, &written) != 0) exit(1);
+    sum += written;
+  }
+  return sum;
+}
+
+int main(int words, char **word) {
+  int writing = words == 3 && strncmp(word[1], "write-", 6) == 0;
+  if (words != 3 || (!writing && !make(word[1]))) {
+    fputs("usage: bench frame-31|frame-16384|read-3|read-20|read-2|read-16000|write-t8|write-305 COUNT\n", stderr);
+    return 2;
+  }
+  long count = atol(word[2]);
+  uint64_t sum = writing ? writes(strcmp(word[1], "write-305") == 0, count) : reads(word[1][0] == 'f', count);
   printf("%" PRIu64 "\n", sum);
   return 0;
 }

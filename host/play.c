@@ -9,10 +9,13 @@
 #include "../include/klarvesimo.h"
 #include "lend.h"
 #include "script.h"
+#include "writing.h"
 
 static const uint64_t FILLED = UINT64_C(0xa5a5a5a5a5a5a5a5);
 
-static struct arena input, output;
+enum { MOST_IDS = 16, MOST_ROOM = 1000000 };
+
+static struct arena input, output, list;
 static int front;
 
 static uint8_t *lend_input(const unsigned char *bytes, size_t count) {
@@ -95,13 +98,91 @@ static void play_read(const uint8_t *bytes, size_t count) {
     puts("bad");
 }
 
-static void play_line(const struct script *s, unsigned char *bytes) {
-  const char *command = s->word[0];
-  int frames = strcmp(command, "frame") == 0;
-  if (!frames && strcmp(command, "read") != 0) script_unreadable(s, "no such command");
-  if (s->words != 2) script_unreadable(s, "this command wants one word");
+static uint8_t *lend_output(size_t room) {
+  uint8_t *lent = arena_lend(&output, room, front);
+  memset(lent, (int)(FILLED & 255), room);
+  return lent;
+}
+
+/* what a writer returned and left in an output of `room` bytes */
+static void write_written(const char *command, uint32_t number, const uint8_t *out, uint64_t written, size_t room) {
+  printf("%s %" PRIu32 " ", command, number);
+  script_write(out, (size_t)written);
+  putchar('\n');
+  for (size_t i = (size_t)written; i < room; i++)
+    if (out[i] != (FILLED & 255)) {
+      puts("touched");
+      return;
+    }
+}
+
+/* ids as `7,8`, or `-` for none */
+static uint32_t *lend_ids(const struct script *s, char *word, size_t *count) {
+  uint32_t ids[MOST_IDS];
+  *count = 0;
+  for (char *at = strcmp(word, "-") == 0 ? NULL : word; at;) {
+    char *comma = strchr(at, ',');
+    if (comma) *comma = 0;
+    if (*count == MOST_IDS) script_unreadable(s, "more than 16 ids");
+    ids[(*count)++] = (uint32_t)script_number(s, at, UINT32_MAX);
+    at = comma ? comma + 1 : NULL;
+  }
+  uint32_t *lent = arena_lend(&list, *count * sizeof *lent, front);
+  memcpy(lent, ids, *count * sizeof *lent);
+  return lent;
+}
+
+static klarvesimo_responder *responder(const struct script *s, const char *state) {
+  if (strcmp(state, "PENDING") == 0) return klarvesimo_write_pending;
+  if (strcmp(state, "IN-PROGRESS") == 0) return klarvesimo_write_in_progress;
+  if (strcmp(state, "COMPLETE") == 0) return klarvesimo_write_complete;
+  script_unreadable(s, "no such request state");
+  return NULL;
+}
+
+/* respond STATE STATUS ID NAME IDS ROOM */
+static void play_respond(const struct script *s, unsigned char *bytes) {
+  klarvesimo_responder *respond = responder(s, s->word[1]);
+  uint32_t status = (uint32_t)script_number(s, s->word[2], 999), id = (uint32_t)script_number(s, s->word[3], UINT32_MAX);
+  size_t length = script_bytes(s, s->word[4], bytes), count, room = script_number(s, s->word[6], MOST_ROOM);
+  const uint8_t *name = lend_input(bytes, length);
+  const uint32_t *ids = lend_ids(s, s->word[5], &count);
+  uint8_t *out = lend_output(room);
+  uint64_t written = FILLED;
+  uint32_t number = respond(name, length, id, status, ids, count, out, room, &written);
+  write_written("respond", number, out, written, room);
+}
+
+/* complete CAUSE ID NAME ROOM */
+static void play_complete(const struct script *s, unsigned char *bytes) {
+  uint32_t cause = (uint32_t)script_number(s, s->word[1], UINT32_MAX), id = (uint32_t)script_number(s, s->word[2], UINT32_MAX);
+  size_t length = script_bytes(s, s->word[3], bytes), room = script_number(s, s->word[4], MOST_ROOM);
+  const uint8_t *name = lend_input(bytes, length);
+  uint8_t *out = lend_output(room);
+  uint64_t written = FILLED;
+  uint32_t number = klarvesimo_write_event(name, length, id, cause, out, room, &written);
+  write_written("complete", number, out, written, room);
+}
+
+static void play_bytes(const struct script *s, unsigned char *bytes) {
   size_t count = script_bytes(s, s->word[1], bytes);
-  (frames ? play_frame : play_read)(lend_input(bytes, count), count);
+  (strcmp(s->word[0], "frame") == 0 ? play_frame : play_read)(lend_input(bytes, count), count);
+}
+
+static const struct {
+  const char *name;
+  int words;
+  void (*play)(const struct script *s, unsigned char *bytes);
+} commands[] = {{"frame", 2, play_bytes}, {"read", 2, play_bytes}, {"respond", 7, play_respond}, {"complete", 5, play_complete}};
+
+static void play_line(const struct script *s, unsigned char *bytes) {
+  for (size_t i = 0; i < sizeof commands / sizeof *commands; i++)
+    if (strcmp(s->word[0], commands[i].name) == 0) {
+      if (s->words != commands[i].words) script_unreadable(s, "this command wants another number of words");
+      commands[i].play(s, bytes);
+      return;
+    }
+  script_unreadable(s, "no such command");
 }
 
 int main(int words, char **word) {
@@ -119,7 +200,8 @@ int main(int words, char **word) {
   unsigned char *bytes = malloc(MOST_BYTES);
   if (!bytes) return 1;
   input = arena_make(MOST_BYTES);
-  output = arena_make(KLARVESIMO_MOST * sizeof(uint64_t));
+  output = arena_make(MOST_ROOM);
+  list = arena_make(MOST_IDS * sizeof(uint32_t));
   while (script_next(&s)) play_line(&s, bytes);
   return fflush(stdout) ? 1 : 0;
 }

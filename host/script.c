@@ -53,6 +53,17 @@ static int digit(char c) {
   return -1;
 }
 
+unsigned long script_number(const struct script *s, const char *word, unsigned long most) {
+  unsigned long value = 0;
+  if (*word == 0) script_unreadable(s, "a number is missing");
+  for (; *word; word++) {
+    if (*word < '0' || *word > '9') script_unreadable(s, "a word that is no number");
+    value = value * 10 + (unsigned long)(*word - '0');
+    if (value > most) script_unreadable(s, "a number that is too great");
+  }
+  return value;
+}
+
 size_t script_bytes(const struct script *s, const char *word, unsigned char *bytes) {
   if (strcmp(word, "-") == 0) return 0;
   size_t length = strlen(word);

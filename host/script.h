@@ -5,7 +5,7 @@
 #include <stddef.h>
 #include <stdio.h>
 
-enum { MOST_BYTES = 1000000, MOST_WORDS = 6 };
+enum { MOST_BYTES = 1000000, MOST_WORDS = 7 };
 
 struct script {
   FILE *from;
@@ -21,6 +21,9 @@ int script_next(struct script *s);
 
 /* Ends the program with status 2: the line's number and what is wrong, on standard error. */
 void script_unreadable(const struct script *s, const char *why);
+
+/* A number, at most `most`. */
+unsigned long script_number(const struct script *s, const char *word, unsigned long most);
 
 /* Lower-case hexadecimal pairs, or `-` for none, into bytes: their count. */
 size_t script_bytes(const struct script *s, const char *word, unsigned char *bytes);

@@ -11,6 +11,7 @@ mod talk;
 mod unsound;
 mod wire;
 mod wish;
+mod write;
 
 use std::io::{self, Write};
 
@@ -22,6 +23,7 @@ pub enum Kind {
     Frame,
     Read,
     Calls,
+    Write,
     All,
 }
 
@@ -31,6 +33,7 @@ impl Kind {
             "frame" => Some(Kind::Frame),
             "read" => Some(Kind::Read),
             "calls" => Some(Kind::Calls),
+            "write" => Some(Kind::Write),
             "all" => Some(Kind::All),
             _ => None,
         }
@@ -42,19 +45,23 @@ pub fn script(seed: u64, count: u64, kind: Kind, out: &mut dyn Write) -> io::Res
     let mut random = Random::new(seed);
     let mut batch = Batch::default();
     let mut left = count;
-    while left > 0 {
+    for turn in 0.. {
+        if left == 0 {
+            break;
+        }
         batch.clear();
-        fill(&mut batch, &mut random, kind);
+        fill(&mut batch, &mut random, kind, turn);
         left -= batch.write(left, out)?;
     }
     Ok(())
 }
 
-fn fill(batch: &mut Batch, random: &mut Random, kind: Kind) {
+fn fill(batch: &mut Batch, random: &mut Random, kind: Kind, turn: usize) {
     match kind {
         Kind::Frame => wire::frames(batch, random),
         Kind::Read => wire::reads(batch, random),
         Kind::Calls => talk::calls(batch, random),
+        Kind::Write => write::writes(batch, random, turn),
         Kind::All => mixture(batch, random),
     }
 }

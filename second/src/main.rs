@@ -12,7 +12,7 @@ use second::script::Trouble;
 use second::tell::tell;
 
 const USAGE: &str = "usage: second play [FILE]
-       second gen SEED COUNT [frame|read|calls|all]
+       second gen SEED COUNT [frame|read|calls|write|all]
        second tell [FILE]
        second bench CASE COUNT";
 

@@ -7,8 +7,10 @@ use crate::fields::Fields;
 use crate::framing::frame;
 use crate::ledger::{entry_of_message, entry_of_report, Entry, Ledger, Violation};
 use crate::message::{read, Message};
+use crate::refusal::Refusal;
 use crate::script::{each_command, put_channel, put_hex, Command, Trouble, MOST_ROOM};
 use crate::start_line::StartLine;
+use crate::writing::{cause_word, Outgoing};
 
 /// The current channel, the ledger since its opening, and the bytes to lend.
 pub struct Board {
@@ -59,6 +61,21 @@ impl Board {
         let outcome = self.channel.report(cause, &mut self.output[..room]);
         let entry = entry_of_report(outcome.number, &self.output[..outcome.written]);
         self.entered(outcome, entry)
+    }
+
+    /// Writes one message outside any channel: its bytes, or the number of the refusal.
+    pub fn write(
+        &mut self,
+        message: &Outgoing,
+        name: &[u8],
+        room: usize,
+    ) -> Result<&[u8], Refusal> {
+        if let Outgoing::Event(event) = message {
+            cause_word(event.cause).ok_or(Refusal::NoSuchCause)?;
+        }
+        let output = &mut self.output[..room];
+        let size = message.write(name, output).ok_or(Refusal::NoRoom)?;
+        Ok(&output[..size])
     }
 
     fn entered(&mut self, outcome: Outcome, entry: Result<Entry, Violation>) -> Call<'_> {
@@ -119,6 +136,14 @@ fn perform(board: &mut Board, command: Command, text: &mut Vec<u8>) -> Result<()
             text.push(b'\n');
             kept = call.entry.map(|_| ());
         }
+        Command::Respond { answer, name, room } => {
+            let message = Outgoing::Answer(*answer);
+            put_written(text, "respond", board.write(&message, &name, room));
+        }
+        Command::Complete { event, name, room } => {
+            let message = Outgoing::Event(event);
+            put_written(text, "complete", board.write(&message, &name, room));
+        }
         Command::Channel(channel) => board.set(*channel),
         Command::Show => {
             put_channel(text, &board.channel);
@@ -130,6 +155,16 @@ fn perform(board: &mut Board, command: Command, text: &mut Vec<u8>) -> Result<()
 
 fn put(text: &mut Vec<u8>, words: &str) {
     text.extend_from_slice(words.as_bytes());
+}
+
+fn put_written(text: &mut Vec<u8>, command: &str, written: Result<&[u8], Refusal>) {
+    let (number, bytes) = match written {
+        Ok(bytes) => (0, bytes),
+        Err(refusal) => (refusal.number(), &[][..]),
+    };
+    put(text, &format!("{command} {number} "));
+    put_hex(text, bytes);
+    text.push(b'\n');
 }
 
 fn put_framed(text: &mut Vec<u8>, input: &[u8]) {

@@ -4,6 +4,9 @@ use std::io::{self, BufRead};
 
 use crate::channel::{Channel, Name, Queue, Speak, State, LONGEST_NAME, MOST_OUTSTANDING};
 use crate::ledger::Violation;
+use crate::start_line::RequestState;
+use crate::states::Ids;
+use crate::writing::{Answer, Event};
 
 pub const MOST_BYTES: usize = 1_000_000;
 pub const MOST_ROOM: u32 = 1_000_000;
@@ -13,8 +16,24 @@ pub enum Command {
     Frame(Vec<u8>),
     Read(Vec<u8>),
     Open(Vec<u8>),
-    Message { room: usize, input: Vec<u8> },
-    Report { cause: u32, room: usize },
+    Message {
+        room: usize,
+        input: Vec<u8>,
+    },
+    Report {
+        cause: u32,
+        room: usize,
+    },
+    Respond {
+        answer: Box<Answer>,
+        name: Vec<u8>,
+        room: usize,
+    },
+    Complete {
+        event: Event,
+        name: Vec<u8>,
+        room: usize,
+    },
     Channel(Box<Channel>),
     Show,
 }
@@ -73,6 +92,24 @@ pub fn command(line: &[u8]) -> Result<Option<Command>, String> {
             cause: number("cause", cause, u32::MAX)?,
             room: number("room", room, MOST_ROOM)? as usize,
         },
+        [b"respond", state, status, id, name, ids, room] => Command::Respond {
+            answer: Box::new(Answer {
+                id: number("id", id, u32::MAX)?,
+                status: number("status", status, 999)? as u16,
+                state: request_state(state)?,
+                list: ids_of(ids)?,
+            }),
+            name: hex(name)?,
+            room: number("room", room, MOST_ROOM)? as usize,
+        },
+        [b"complete", cause, id, name, room] => Command::Complete {
+            event: Event {
+                id: number("id", id, u32::MAX)?,
+                cause: number("cause", cause, u32::MAX)?,
+            },
+            name: hex(name)?,
+            room: number("room", room, MOST_ROOM)? as usize,
+        },
         [b"channel", name, state, last, queue] => channel(name, state, last, queue, None)?,
         [b"channel", name, state, last, queue, count] => {
             channel(name, state, last, queue, Some(count))?
@@ -83,8 +120,16 @@ pub fn command(line: &[u8]) -> Result<Option<Command>, String> {
     Ok(Some(command))
 }
 
-const COMMANDS: [&[u8]; 7] = [
-    b"frame", b"read", b"open", b"message", b"report", b"channel", b"show",
+const COMMANDS: [&[u8]; 9] = [
+    b"frame",
+    b"read",
+    b"open",
+    b"message",
+    b"report",
+    b"respond",
+    b"complete",
+    b"channel",
+    b"show",
 ];
 
 fn no_command(words: &[&[u8]]) -> String {
@@ -195,6 +240,26 @@ fn state_of(word: &[u8]) -> Result<State, String> {
         b"paused" => Ok(State::PAUSED),
         word => Ok(State(number("state", word, u8::MAX.into())? as u8)),
     }
+}
+
+fn request_state(word: &[u8]) -> Result<RequestState, String> {
+    RequestState::of_word(word)
+        .ok_or_else(|| format!("no request state `{}`", String::from_utf8_lossy(word)))
+}
+
+/// As `7,8`, at most 16, or `-` for none.
+fn ids_of(word: &[u8]) -> Result<Ids, String> {
+    let mut ids = Ids::NONE;
+    if word == b"-" {
+        return Ok(ids);
+    }
+    for part in word.split(|&byte| byte == b',') {
+        if ids.all().len() == MOST_OUTSTANDING {
+            return Err(format!("more than {MOST_OUTSTANDING} ids"));
+        }
+        ids.add(number("id", part, u32::MAX)?);
+    }
+    Ok(ids)
 }
 
 /// As `7+,8-`, `+` for killable, or `-` for none.

@@ -21,7 +21,7 @@ impl RequestState {
         }
     }
 
-    fn of_word(word: &[u8]) -> Option<RequestState> {
+    pub fn of_word(word: &[u8]) -> Option<RequestState> {
         match word {
             b"PENDING" => Some(RequestState::Pending),
             b"IN-PROGRESS" => Some(RequestState::InProgress),

@@ -22,7 +22,7 @@ impl Ids {
         &self.stored[..self.count]
     }
 
-    fn add(&mut self, id: u32) {
+    pub fn add(&mut self, id: u32) {
         self.stored[self.count] = id;
         self.count += 1;
     }

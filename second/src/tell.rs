@@ -13,7 +13,7 @@ use crate::play::{Board, Call};
 use crate::refusal::Refusal;
 use crate::script::{each_command, put_channel, Command, Trouble};
 use crate::start_line::StartLine;
-use crate::writing::cause_word;
+use crate::writing::{cause_word, Outgoing};
 
 /// What became of a SPEAK.
 enum Fate {
@@ -68,6 +68,12 @@ impl Teller {
             Command::Open(name) => self.open(text, &name),
             Command::Message { room, input } => return self.message(text, room, &input),
             Command::Report { cause, room } => return self.report(text, cause, room),
+            Command::Respond { answer, name, room } => {
+                self.written(text, &Outgoing::Answer(*answer), &name, room);
+            }
+            Command::Complete { event, name, room } => {
+                self.written(text, &Outgoing::Event(event), &name, room);
+            }
             Command::Channel(channel) => {
                 self.board.set(*channel);
                 let words = channel_words(&self.board);
@@ -79,6 +85,14 @@ impl Teller {
             }
         }
         Ok(())
+    }
+
+    fn written(&mut self, text: &mut String, message: &Outgoing, name: &[u8], room: usize) {
+        let words = match self.board.write(message, name, room) {
+            Ok(bytes) => readable(bytes),
+            Err(refusal) => format!("refused, {}", refusal.meaning()),
+        };
+        text.push_str(&format!("== written: {words}\n\n"));
     }
 
     fn open(&mut self, text: &mut String, name: &[u8]) {

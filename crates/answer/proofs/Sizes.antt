@@ -21,7 +21,7 @@ use Rattle.answer.specs.Answers.{channelIdentifier, activeRequestIdList,
 use Rattle.answer.proofs.Places.{field-size}
 use Rattle.answer.proofs.Frames.{written-length}
 
-fields-size : (f : Field (List ℕ)) (fs : List (Field (List ℕ)))
+pub fields-size : (f : Field (List ℕ)) (fs : List (Field (List ℕ)))
     → length (fieldsText (f ∷ fs)) ≡ 3 + length (f .name) + length (f .value) + length (fieldsText fs)
 unfolding fieldsText
 fields-size f fs = omega (arith, length-append (fieldText f) (fieldsText fs), field-size f)
@@ -32,7 +32,7 @@ self-most b h =
     let w : width b ≤ 3 = width-below b 2 (omega arith) in
     omega (arith, width-below (b + width b) 2 (omega arith))
 
-after-size : (m : Message) → length (afterLength m) ≡ 5 + length (startText (m .start)) + length (fieldsText (m .fields)) + length (m .body)
+pub after-size : (m : Message) → length (afterLength m) ≡ 5 + length (startText (m .start)) + length (fieldsText (m .fields)) + length (m .body)
 unfolding afterLength
 after-size m = simp length-append (omega arith)
 
@@ -51,11 +51,11 @@ state-most Pending = lit≤ tt
 state-most InProgress = lit≤ tt
 state-most Complete = lit≤ tt
 
-response-start : (id status : ℕ) (state : RequestState) → length (startText (M.response id status state)) ≡ 5 + width id + length (stateText state)
+pub response-start : (id status : ℕ) (state : RequestState) → length (startText (M.response id status state)) ≡ 5 + width id + length (stateText state)
 unfolding startText
 response-start id status state = simp length-append (omega (arith, three-length status))
 
-event-start : (name : List ℕ) (id : ℕ) (state : RequestState)
+pub event-start : (name : List ℕ) (id : ℕ) (state : RequestState)
     → length (startText (M.event name id state)) ≡ 2 + length name + width id + length (stateText state)
 unfolding startText
 event-start name id state = simp length-append (omega arith)

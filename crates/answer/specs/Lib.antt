@@ -2,3 +2,4 @@ pub mod Written
 pub mod IdList
 pub mod Answers
 pub mod Writable
+pub mod Delivery

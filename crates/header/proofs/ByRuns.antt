@@ -21,7 +21,7 @@ use Rattle.readers.proofs.Cuts.{line-end, line-on}
 use Rattle.message.specs.Message.{Field}
 use Rattle.message.specs.Fields.{trimEnd, trimmed, Line, empty, field, isPlain, lineAt, fieldLine}
 use Rattle.message.specs.declared.Span.{Span}
-use Rattle.header.proofs.Runs.{run-yes, run-no}
+use Rattle.readers.proofs.Positions.{run-yes, run-no}
 
 -- the field with a name of k bytes at `at` and the value v, b blanks past the colon; blanks at its end are dropped
 abbrev pub places : ℕ → ℕ → ℕ → List ℕ → Field Span

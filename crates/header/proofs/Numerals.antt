@@ -19,7 +19,7 @@ use Rattle.readers.proofs.Decimals.{grown}
 use Rattle.message.specs.Reading.{agrees}
 use Rattle.header.specs.Steps.{statedOf, givenBy}
 use Rattle.header.specs.declared.Stated.{Stated}
-use Rattle.header.proofs.Runs.{here}
+use Rattle.readers.proofs.Positions.{here}
 
 -- the number n, where the test holds
 abbrev pub number : Bool → ℕ → Stated

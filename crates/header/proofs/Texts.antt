@@ -8,7 +8,7 @@ use lib.ListN.{length, getD, drop, drop-of-length-le, List·getD-map}
 use borrow.Author.Tests.{eq-eqb, ne-eqb}
 use Rattle.lists.specs.Lists.{same}
 use Rattle.octets.specs.Octets.{lowered, lower}
-use Rattle.header.proofs.Runs.{here}
+use Rattle.readers.proofs.Positions.{here}
 
 pub same-length : (a t : List ℕ) → (length a ≡ length t → ⊥) → same (lower a) t ≡ false
 same-length [] [] h = absurd (h refl)

@@ -4,7 +4,6 @@ ghost use Prim.Native.Nat.{_+_};
 ghost use lib.ListN.{drop};
 ghost use Rattle.lists.specs.Lists.{run, same};
 ghost use Rattle.octets.specs.Octets.{isName, isValue, isBlank, lower, classes};
-ghost use Rattle.readers.specs.Words.{starts, isCrlf};
 ghost use Rattle.message.specs.Message.{part as partOf};
 ghost use Rattle.message.specs.Fields.{fieldLine};
 ghost use Rattle.message.specs.Known.{orElse, knownOf, indexOf};
@@ -88,25 +87,6 @@ fn value_end(f: &[u8], class: &[u8; 256], at: usize) -> Value
     Value { end: i, last }
 }
 
-// The byte `b` stands at `at`.
-fn has(f: &[u8], at: usize, b: u8) -> bool
-    ensures { λ r. ⌜ r ≡ starts b (drop at (now (f .entry))) ⌝ }
-{
-    if at < f.len() { f[at] == b } else { false }
-}
-
-// CRLF stands at `at`.
-fn crlf(f: &[u8], at: usize) -> bool
-    ensures { λ r. ⌜ r ≡ isCrlf (drop at (now (f .entry))) ⌝ }
-{
-    if at < f.len() {
-        if f[at] == 13 {
-            return has(f, at + 1, 10);
-        }
-    }
-    false
-}
-
 // What a line is, and where the next one begins.
 enum Line {
     Malformed,
@@ -121,7 +101,7 @@ fn field_line(f: &[u8], class: &[u8; 256], at: usize) -> Line
 {
     let n = name_end(f, class, at);
     if n == at {
-        if crlf(f, at) {
+        if readers::crlf(f, at) {
             return Line::Empty(at + 2);
         }
         return Line::Malformed;
@@ -129,13 +109,13 @@ fn field_line(f: &[u8], class: &[u8; 256], at: usize) -> Line
     if 64 < n - at {
         return Line::Malformed;
     }
-    if !has(f, n, 58) {
+    if !readers::has(f, n, 58) {
         return Line::Malformed;
     }
     let v = blank_end(f, class, n + 1);
     let w = value_end(f, class, v);
     let end = w.end;
-    if !crlf(f, end) {
+    if !readers::crlf(f, end) {
         return Line::Malformed;
     }
     let name = message::Span {
@@ -171,6 +151,7 @@ fn alike(n: &[u8], t: &[u8]) -> bool
     true
 }
 
+// The name `k`, where the comparison with it held.
 fn or_unknown(same: bool, k: message::Known) -> message::Known
     ensures { λ r. ⌜ r ≡ orElse same k Unknown ⌝ }
 {
@@ -199,7 +180,7 @@ pub fn known(n: &[u8]) -> message::Known
     }
 }
 
-// A known name's bit in the mask; an unknown name has none.
+// A known name's bit in the mask, and its number; an unknown name has no bit.
 fn bit(k: message::Known) -> u16
     ensures { λ r. ⌜ r ≡ bitOf k ⌝ }
 {
@@ -259,7 +240,7 @@ fn number(v: &[u8]) -> Stated
     Stated::Number(n)
 }
 
-// Content-Length, which is the field `x` where it came, agrees with the `left` bytes of the body.
+// Content-Length, which is the field `x` where its bit, 2, is set, agrees with the `left` bytes of the body.
 fn agrees(f: &[u8], mask: u16, x: Field, left: usize) -> bool
     ensures { λ r. ⌜ r ≡ agreesOf (givenBy mask (partOf (now (f .entry)) (x .value))) left ⌝ }
 {
@@ -293,6 +274,7 @@ fn may_come(count: usize, mask: u16, k: message::Known) -> bool
     }
 }
 
+// What stands behind the fields that came.
 const NOWHERE: message::Span = message::Span { start: 0, len: 0 };
 
 const NO_FIELD: Field = Field {
@@ -340,7 +322,8 @@ fn next_step(f: &[u8], class: &[u8; 256], at: usize, count: usize, mask: u16) ->
     }
 }
 
-// The fields of the frame `f` from `at` on, and the body after them, in one pass over the lines; the body is not looked at.
+// The fields of the frame `f` from `at` on, and the body after them, in one pass over the lines; the body is not looked at. Content-Length has
+// the number 1.
 pub fn read_header(f: &[u8], at: usize) -> Header
     ensures { λ r. ⌜ r ≡ headerOf (now (f .entry)) (fieldsFrom (now (f .entry)) at) ⌝ }
 {

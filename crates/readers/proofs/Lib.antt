@@ -5,3 +5,4 @@ pub mod Spelled
 pub mod Decimals
 pub mod Cuts
 pub mod Words
+pub mod Positions

@@ -3,6 +3,7 @@ ghost use mathlib.Core.Path.{_≡_};
 ghost use Prim.Native.Nat.{_+_, _-_, _*_, _^_, _≤_, _<_};
 ghost use lib.ListN.{drop};
 ghost use Rattle.readers.specs.Readers.{text as textOf, digits as digitsOf, number as numberOf};
+ghost use Rattle.readers.specs.Words.{starts, isCrlf};
 ghost use Rattle.readers.specs.Steps.{placed, scanned, atMost19, oneTo19, digitsAt};
 
 // What reading a text finds: the bytes end too soon, they are wrong, or the position after the text.
@@ -151,4 +152,23 @@ pub fn number(s: &[u8], at: usize, max: usize) -> Scan
         return Scan::Wrong;
     }
     open_digits(s, at, one_to_19(max))
+}
+
+// The byte `b` stands at `at`.
+pub fn has(f: &[u8], at: usize, b: u8) -> bool
+    ensures { λ r. ⌜ r ≡ starts b (drop at (now (f .entry))) ⌝ }
+{
+    if at < f.len() { f[at] == b } else { false }
+}
+
+// CRLF stands at `at`.
+pub fn crlf(f: &[u8], at: usize) -> bool
+    ensures { λ r. ⌜ r ≡ isCrlf (drop at (now (f .entry))) ⌝ }
+{
+    if at < f.len() {
+        if f[at] == b'\r' {
+            return has(f, at + 1, b'\n');
+        }
+    }
+    false
 }

@@ -1,47 +1,19 @@
--- How runs, texts and digits go on at a position of a list: one law for each way that a loop's turn can go.
+-- How texts and digits go on at a position of a list: one law for each way that a loop's turn can go.
 -- Assumes nothing.
 use mathlib.Core.Path.{_≡_, refl, ap}
 use mathlib.Core.Bool.{Bool, true, false, _&&_}
 use mathlib.Core.List.{List, [], _∷_}
 use Prim.Native.Nat.{ℕ, zero, suc, _+_, _-_, _*_, _^_, _<_, _≤_}
-use native.Mathlib.Nat.{add-zero, pow-le-pow-right, le-of-suc-le-suc}
-use native.Mathlib.Numerals.{add-one, sub-one}
+use native.Mathlib.Nat.{pow-le-pow-right, le-of-suc-le-suc}
+use native.Mathlib.Numerals.{sub-one}
 use native.Mathlib.Omega.{arith}
 use lib.Dec.{eqb, lit<}
 use lib.ListN.{length, getD, drop, drop-of-length-le}
-use lib.Seq.{drop-cons}
-use Rattle.lists.specs.Lists.{run}
 use Rattle.lists.proofs.Tests.{both}
 use Rattle.octets.specs.Octets.{isDigit}
-use Rattle.readers.specs.Words.{starts, isCrlf}
 use Rattle.readers.proofs.Decimals.{digit-bounds}
+use Rattle.readers.proofs.Positions.{here}
 use Rattle.startline.specs.Runs.{digitsAt, begins}
-
-pub here : (s : List ℕ) (i : ℕ) → i < length s → drop i s ≡ getD s i 0 ∷ drop (i + 1) s
-here s i h = rw (add-one, drop-cons s i 0)
-
-module _ (s : List ℕ) (i : ℕ) where
-  pub starts-end : (b : ℕ) → length s ≤ i → starts b (drop i s) ≡ false
-  starts-end b h = rw (drop-of-length-le s h)
-
-  pub starts-here : (b : ℕ) → i < length s → starts b (drop i s) ≡ eqb (getD s i 0) b
-  starts-here b h = rw (here s i h)
-
-  pub crlf-end : length s ≤ i → isCrlf (drop i s) ≡ false
-  crlf-end h = rw (drop-of-length-le s h)
-
-  pub crlf-here : (b : Bool) → i < length s → eqb (getD s i 0) 13 ≡ b → isCrlf (drop i s) ≡ b && starts 10 (drop (i + 1) s)
-  crlf-here b h e = rw (here s i h) (ap (λ b. b && starts 10 (drop (i + 1) s)) e)
-
-module _ (test : ℕ → Bool) (s : List ℕ) (i : ℕ) where
-  pub run-end : length s ≤ i → i + run test (drop i s) ≡ i
-  run-end h = rw (drop-of-length-le s h) (add-zero i)
-
-  pub run-stop : i < length s → test (getD s i 0) ≡ false → i + run test (drop i s) ≡ i
-  run-stop h e = rw (here s i h, e, run) (add-zero i)
-
-  pub run-step : i < length s → test (getD s i 0) ≡ true → i + run test (drop i s) ≡ i + 1 + run test (drop (i + 1) s)
-  run-step h e = rw (here s i h, e, run) (omega arith)
 
 module _ (s t : List ℕ) (i k : ℕ) where
   pub text-done : length t ≤ k → begins (drop k t) (drop i s) ≡ true
@@ -77,20 +49,7 @@ module _ (s : List ℕ) (v i : ℕ) where
 pub bounded : (v k x : ℕ) → v < 10 ^ k → k < 19 → isDigit x ≡ true → v * 10 + (x - 48) < 2 ^ 64
 bounded v k x h l e = omega (arith, digit-bounds x e, pow-le-pow-right {n = 10} (lit< tt) {i = k} {j = 18} (le-of-suc-le-suc l))
 
--- where a byte or CRLF stands there is room for it
-pub starts-in : (b : ℕ) (s : List ℕ) (i : ℕ) → starts b (drop i s) ≡ true → i < length s
-starts-in b [] zero e = let d : _≡_ {A = ℕ} 0 1 = cc in absurd (omega arith)
-starts-in b [] (suc i) e = let d : _≡_ {A = ℕ} 0 1 = cc in absurd (omega arith)
-starts-in b (x ∷ s) zero e = omega arith
-starts-in b (x ∷ s) (suc i) e = omega (arith, starts-in b s i e)
-
-pub crlf-in : (s : List ℕ) (i : ℕ) → isCrlf (drop i s) ≡ true → i + 1 < length s
-crlf-in [] zero e = let d : _≡_ {A = ℕ} 0 1 = cc in absurd (omega arith)
-crlf-in [] (suc i) e = let d : _≡_ {A = ℕ} 0 1 = cc in absurd (omega arith)
-crlf-in (x ∷ s) zero e = omega (arith, starts-in 10 s 0 (both (eqb x 13) (starts 10 s) e .1))
-crlf-in (x ∷ s) (suc i) e = omega (arith, crlf-in s i e)
-
--- and for a text
+-- where a text stands there is room for it
 pub begins-in : (t s : List ℕ) (i : ℕ) → begins t (drop i s) ≡ true → 0 < length t → i + length t ≤ length s
 begins-in [] s i e h = absurd (omega arith)
 begins-in (b ∷ t) [] zero e h = let d : _≡_ {A = ℕ} 0 1 = cc in absurd (omega arith)

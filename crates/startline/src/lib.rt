@@ -3,7 +3,6 @@ ghost use mathlib.Core.Path.{_≡_};
 ghost use Prim.Native.Nat.{_+_, _≤_};
 ghost use lib.ListN.{drop};
 ghost use Rattle.lists.specs.Lists.{run};
-ghost use Rattle.readers.specs.Words.{starts, isCrlf};
 ghost use Rattle.message.specs.StartLines.{startLine as startLineOf};
 ghost use Rattle.octets.specs.Octets.{isCapital};
 ghost use Rattle.startline.specs.StartLine.{startedOf};
@@ -44,25 +43,6 @@ enum Id {
 enum Last {
     Wrong,
     Got(message::RequestState, usize),
-}
-
-// The byte `b` stands at `at`.
-fn has(f: &[u8], at: usize, b: u8) -> bool
-    ensures { λ r. ⌜ r ≡ starts b (drop at (now (f .entry))) ⌝ }
-{
-    if at < f.len() { f[at] == b } else { false }
-}
-
-// CRLF stands at `at`.
-fn crlf(f: &[u8], at: usize) -> bool
-    ensures { λ r. ⌜ r ≡ isCrlf (drop at (now (f .entry))) ⌝ }
-{
-    if at < f.len() {
-        if f[at] == b'\r' {
-            return has(f, at + 1, b'\n');
-        }
-    }
-    false
 }
 
 // The bytes of `t` stand at `at`.
@@ -180,7 +160,7 @@ fn response(f: &[u8], at: usize) -> StartLine
     match i {
         Id::Wrong => StartLine::Malformed,
         Id::Got(id, end) => {
-            if !has(f, end, b' ') {
+            if !readers::has(f, end, b' ') {
                 return StartLine::Malformed;
             }
             status(f, end + 1, id)
@@ -197,7 +177,7 @@ fn status(f: &[u8], at: usize, id: u64) -> StartLine
     if end - at != 3 {
         return StartLine::Malformed;
     }
-    if !has(f, end, b' ') {
+    if !readers::has(f, end, b' ') {
         return StartLine::Malformed;
     }
     let l = last_state(f, end + 1);
@@ -215,10 +195,10 @@ fn behind_name(f: &[u8], at: usize, name: message::Span) -> StartLine
     match i {
         Id::Wrong => StartLine::Malformed,
         Id::Got(id, end) => {
-            if crlf(f, end) {
+            if readers::crlf(f, end) {
                 return StartLine::Line(Start::Request(name, id), end + 2);
             }
-            if !has(f, end, b' ') {
+            if !readers::has(f, end, b' ') {
                 return StartLine::Malformed;
             }
             let l = last_state(f, end + 1);
@@ -245,7 +225,7 @@ fn named(f: &[u8], at: usize) -> StartLine
     if LONGEST_NAME < len {
         return StartLine::Malformed;
     }
-    if !has(f, end, b' ') {
+    if !readers::has(f, end, b' ') {
         return StartLine::Malformed;
     }
     behind_name(f, end + 1, message::Span { start: at, len })

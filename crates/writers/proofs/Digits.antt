@@ -120,6 +120,32 @@ width-mono m n h = dec-ind (λ m. (n : ℕ) → m ≤ n → width m ≤ width n)
     big : (m : ℕ) → 10 ≤ m → ((n : ℕ) → m / 10 ≤ n → width (m / 10) ≤ width n) → (n : ℕ) → m ≤ n → width m ≤ width n
     big m h ih n l = let g : 10 ≤ n = omega arith in omega (arith, width-big m h, width-big n g, ih (n / 10) (omega arith))
 
+-- a u64 has at most twenty
+pub width-64 : (n : ℕ) → n < 2 ^ 64 → width n ≤ 20
+width-64 n h = width-below n 19 (omega arith)
+
+-- counted by fours
+pub width-fours : (n : ℕ) → 10000 ≤ n → width n ≡ width (n / 10000) + 4
+width-fours n h =
+    let e : n / 10 / 10 / 10 / 10 ≡ n / 10000 = omega arith in
+    let w = ap width e in
+    omega (
+      arith,
+      width-big n (omega arith),
+      width-big (n / 10) (omega arith),
+      width-big (n / 10 / 10) (omega arith),
+      width-big (n / 10 / 10 / 10) (omega arith),
+    )
+
+pub width-two : (n : ℕ) → 10 ≤ n → n < 100 → width n ≡ 2
+width-two n h k = omega (arith, width-big n h, width-small (n / 10) (omega arith))
+
+pub width-three : (n : ℕ) → 100 ≤ n → n < 1000 → width n ≡ 3
+width-three n h k = omega (arith, width-big n (omega arith), width-two (n / 10) (omega arith) (omega arith))
+
+pub width-four : (n : ℕ) → 1000 ≤ n → n < 10000 → width n ≡ 4
+width-four n h k = omega (arith, width-big n (omega arith), width-three (n / 10) (omega arith) (omega arith))
+
 -- an id in range, written, is a request-id
 pub id-written : (n : ℕ) → n < 4294967296 → isRequestId (digits n) ≡ true
 id-written n h =
@@ -129,7 +155,7 @@ id-written n h =
 
 pub three-all : (n : ℕ) → n < 1000 → all isDigit (threeDigits n) ≡ true
 unfolding threeDigits
-three-all n h = rw (digit (n / 100) (omega arith), digit (n / 10 % 10) (omega arith), digit (n % 10) (omega arith))
+three-all n h = rw (digit (n / 100 % 10) (omega arith), digit (n / 10 % 10) (omega arith), digit (n % 10) (omega arith))
 
 pub three-number : (n : ℕ) → n < 1000 → numberOf (threeDigits n) ≡ n
 unfolding threeDigits

@@ -1,3 +1,4 @@
 pub mod Digits
 pub mod SelfLength
+pub mod Put
 pub mod Theorems

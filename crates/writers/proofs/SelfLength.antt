@@ -38,3 +38,12 @@ least b m e =
     let one : width b ≤ width m = width-mono b m (omega arith) in
     let two : width (b + width b) ≤ width m = width-mono (b + width b) m (omega arith) in
     omega arith
+
+-- as code counts it
+pub counted-twice : {b base v w : ℕ} → b ≡ base → v ≡ width b → w ≡ width (b + v) → b + w ≡ selfLength base
+unfolding selfLength
+counted-twice e f g = rw (g, f, e)
+
+pub self-more : (base : ℕ) → base ≤ selfLength base
+unfolding selfLength
+self-more base = omega arith

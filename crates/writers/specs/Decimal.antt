@@ -21,6 +21,6 @@ digits n = digitsWithin (suc n) n
 abbrev pub width : ℕ → ℕ
 width n = length (digits n)
 
--- three digits, as a status code and a cause have them
+-- the last three digits, as a status code and a cause have them
 unfoldable pub threeDigits : ℕ → List ℕ
-threeDigits n = (48 + n / 100) ∷ (48 + n / 10 % 10) ∷ (48 + n % 10) ∷ []
+threeDigits n = (48 + n / 100 % 10) ∷ (48 + n / 10 % 10) ∷ (48 + n % 10) ∷ []

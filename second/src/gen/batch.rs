@@ -4,6 +4,7 @@ use std::io::{self, Write};
 
 use crate::channel::{Channel, MOST_OUTSTANDING};
 use crate::script::{put_channel, put_hex};
+use crate::writing::{Answer, Event};
 
 #[derive(Default)]
 pub struct Batch {
@@ -42,6 +43,32 @@ impl Batch {
     pub fn report(&mut self, cause: u32, room: usize) {
         let words = format!("report {cause} {room}");
         self.text.extend_from_slice(words.as_bytes());
+        self.end(true);
+    }
+
+    pub fn respond(&mut self, answer: &Answer, name: &[u8], room: usize) {
+        let Answer {
+            id, status, state, ..
+        } = answer;
+        let words = format!("respond {} {status} {id} ", state.word());
+        self.text.extend_from_slice(words.as_bytes());
+        put_hex(&mut self.text, name);
+        let ids: Vec<String> = answer.list.all().iter().map(u32::to_string).collect();
+        let list = if ids.is_empty() {
+            "-".to_string()
+        } else {
+            ids.join(",")
+        };
+        self.text
+            .extend_from_slice(format!(" {list} {room}").as_bytes());
+        self.end(true);
+    }
+
+    pub fn complete(&mut self, event: &Event, name: &[u8], room: usize) {
+        let words = format!("complete {} {} ", event.cause, event.id);
+        self.text.extend_from_slice(words.as_bytes());
+        put_hex(&mut self.text, name);
+        self.text.extend_from_slice(format!(" {room}").as_bytes());
         self.end(true);
     }
 

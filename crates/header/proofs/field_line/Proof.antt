@@ -4,7 +4,7 @@ use mathlib.Core.Path.{sym, ap, _∙_}
 use native.Mathlib.Omega.{arith}
 use borrow.Author.Tests.{not-true, not-false}
 use Rattle.header.specs.Steps.{lineOf}
-use Rattle.header.proofs.Runs.{starts-in, crlf-in}
+use Rattle.readers.proofs.Positions.{starts-in, crlf-in}
 use Rattle.header.proofs.Lining.{line-empty, line-none, line-long, line-colon, line-open, line-field}
 use borrow.Author.Needs.{needs}
 use Rattle.header.proofs.field_line.Statement.{statement}

@@ -8,7 +8,7 @@ use lib.ListN.{length, drop}
 use Rattle.lists.specs.Lists.{run}
 use Rattle.octets.specs.Octets.{isName}
 use Rattle.octets.proofs.Bits.{name-bit}
-use Rattle.header.proofs.Runs.{run-end, run-stop, run-step}
+use Rattle.readers.proofs.Positions.{run-end, run-stop, run-step}
 use Rattle.header.proofs.Classed.{bit-clear, bit-set}
 use Rattle.header.proofs.name_end.Statement.{statement}
 use Rattle.header.proofs.name_end.Tie as tie

@@ -9,7 +9,8 @@ use lib.ListN.{length, drop}
 use Rattle.lists.specs.Lists.{run}
 use Rattle.octets.specs.Octets.{isValue, isBlank}
 use Rattle.octets.proofs.Bits.{value-bit, blank-bit}
-use Rattle.header.proofs.Runs.{run-end, run-stop, run-step, reach, reach-same, solid, solid-end, solid-stop, solid-blank, solid-solid}
+use Rattle.readers.proofs.Positions.{run-end, run-stop, run-step}
+use Rattle.header.proofs.Runs.{reach, reach-same, solid, solid-end, solid-stop, solid-blank, solid-solid}
 use Rattle.header.proofs.Classed.{bit-clear, bit-set}
 use Rattle.header.proofs.value_end.Statement.{statement}
 use Rattle.header.proofs.value_end.Tie as tie

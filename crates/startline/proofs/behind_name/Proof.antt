@@ -7,7 +7,7 @@ use borrow.Author.Needs.{needs}
 use Rattle.message.specs.Message.{event}
 use Rattle.startline.specs.Rules.{said, told, lastWord, fromEnd, behindName}
 use Rattle.startline.proofs.Said.{ended, ended-line, ended-other, ended-space, told-same}
-use Rattle.startline.proofs.Positions.{starts-in, crlf-in}
+use Rattle.readers.proofs.Positions.{starts-in, crlf-in}
 use Rattle.startline.proofs.Judged.{idBy, id-told}
 use Rattle.startline.proofs.LastWord.{lastBy, last-told}
 use Rattle.startline.proofs.behind_name.Statement.{statement}

@@ -7,7 +7,7 @@ use borrow.Author.Needs.{needs}
 use borrow.Author.Tests.{not-true, not-false}
 use Rattle.lists.specs.Lists.{run}
 use Rattle.startline.specs.Runs.{isNaming}
-use Rattle.startline.proofs.Positions.{run-end, run-stop, run-step}
+use Rattle.readers.proofs.Positions.{run-end, run-stop, run-step}
 use Rattle.startline.proofs.name_end.Statement.{statement}
 use Rattle.startline.proofs.name_end.Tie as tie
 

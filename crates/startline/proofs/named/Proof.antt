@@ -8,7 +8,7 @@ use borrow.Author.Needs.{needs}
 use Rattle.message.specs.StartLines.{startsCapital}
 use Rattle.startline.specs.Rules.{said, told, behindName, fromName}
 use Rattle.startline.proofs.Said.{ended, ended-space, ended-stray}
-use Rattle.startline.proofs.Positions.{here, starts-in}
+use Rattle.readers.proofs.Positions.{here, starts-in}
 use Rattle.startline.proofs.Judged.{name-wrong, name-long, name-left}
 use Rattle.startline.proofs.named.Statement.{statement}
 use Rattle.startline.proofs.named.Tie as tie

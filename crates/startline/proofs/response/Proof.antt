@@ -6,7 +6,7 @@ use borrow.Author.Tests.{not-true, not-false}
 use borrow.Author.Needs.{needs}
 use Rattle.startline.specs.Rules.{said, told, fromStatus, fromId}
 use Rattle.startline.proofs.Said.{ended, ended-space, ended-stray}
-use Rattle.startline.proofs.Positions.{starts-in}
+use Rattle.readers.proofs.Positions.{starts-in}
 use Rattle.startline.proofs.Judged.{idBy, id-told}
 use Rattle.startline.proofs.response.Statement.{statement}
 use Rattle.startline.proofs.response.Tie as tie

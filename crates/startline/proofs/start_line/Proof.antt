@@ -2,7 +2,7 @@
 use mathlib.Core.Path.{sym, _∙_}
 use lib.ListN.{drop-of-length-le}
 use borrow.Author.Needs.{needs}
-use Rattle.startline.proofs.Positions.{here}
+use Rattle.readers.proofs.Positions.{here}
 use Rattle.startline.proofs.FirstWord.{start-none, start-response, start-named}
 use Rattle.startline.proofs.start_line.Statement.{statement}
 use Rattle.startline.proofs.start_line.Tie as tie

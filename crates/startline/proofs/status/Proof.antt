@@ -7,7 +7,7 @@ use borrow.Author.Needs.{needs}
 use Rattle.message.specs.Message.{response}
 use Rattle.startline.specs.Rules.{said, told, lastWord, fromStatus}
 use Rattle.startline.proofs.Said.{ended-space, ended-stray}
-use Rattle.startline.proofs.Positions.{starts-in}
+use Rattle.readers.proofs.Positions.{starts-in}
 use Rattle.startline.proofs.Fronts.{counted}
 use Rattle.startline.proofs.Judged.{status-wrong, status-left}
 use Rattle.startline.proofs.LastWord.{lastBy, last-told}

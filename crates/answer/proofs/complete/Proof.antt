@@ -1,0 +1,29 @@
+-- `answer::complete` meets its contract. Assumes nothing.
+use native.Mathlib.Omega.{arith}
+use Rattle.answer.specs.Written.{written}
+use Rattle.answer.specs.Answers.{speakComplete}
+use Rattle.answer.specs.Delivery.{causeNumber}
+use Rattle.answer.proofs.Delivered.{fits, refused}
+use Rattle.answer.proofs.complete.Statement.{statement}
+use Rattle.answer.proofs.complete.Tie as tie
+
+complete-size-requires : tie.Need-complete-size-requires
+complete-size-requires c κs = omega arith
+
+returns : tie.Need-returns
+returns c =
+    let a = c .before .before .before .before .args in
+    refused (written (speakComplete (a .name .now) (a .id) (causeNumber (a .cause)))) (a .out .now) (omega arith)
+
+put-complete-requires : tie.Need-put-complete-requires
+put-complete-requires c κs = omega arith
+
+same-length : tie.Need-same-length
+same-length c = c .before .before .put-complete .kept .0
+
+returns-2 : tie.Need-returns-2
+returns-2 c = fits (c .before .before .put-complete .ensures)
+
+pub complete-spec : {M : Type 1} → statement M
+complete-spec =
+    tie.close (tie.spec complete-size-requires returns put-complete-requires same-length returns-2)

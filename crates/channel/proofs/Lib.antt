@@ -1,0 +1,4 @@
+pub mod Names
+pub mod Views
+pub mod Turns
+pub mod Masks

@@ -1,0 +1,214 @@
+-- One pass over a value finds what cutting it at its commas finds: what is left of the pass equals the whole, for each word begun.
+-- Assumes nothing.
+use Prim.Native.Nat.{ℕ, _+_, _*_, _-_, _≤_, _<_}
+use native.Mathlib.Numerals.{add-one}
+use native.Mathlib.Omega.{arith}
+use mathlib.Core.Path.{_≡_, refl, sym, ap, ap₂, _∙_}
+use mathlib.Core.Bool.{Bool, true, false, not, _&&_, and-false}
+use mathlib.Core.List.{List, [], _∷_, _++_, map, append-assoc, append-nil}
+use mathlib.Core.Logic.{_≢_}
+use lib.Bits.{bitOr}
+use lib.Dec.{eqb, leb}
+use lib.ListN.{length, take, drop, getD, length-append, drop-of-length-le}
+use lib.Seq.{drop-cons}
+use borrow.Author.Tests.{eqb-true, eqb-false, eq-eqb, ne-eqb, le-leb, lt-leb, not-true, not-false}
+use Rattle.lists.specs.Lists.{all}
+use Rattle.lists.proofs.Scans.{all-append}
+use Rattle.octets.specs.Octets.{isDigit}
+use Rattle.readers.specs.Words.{words, onto, numberOf, isRequestId}
+use Rattle.readers.proofs.Words.{decimal-append}
+use Rattle.answer.specs.IdList.{isIdList, idsOf}
+use Rattle.idlist.specs.Named.{bitsFrom, inRange, namedIn}
+use Rattle.idlist.specs.declared.Which.{Which}
+use Rattle.idlist.specs.declared.Which.the-variants.{Illegal, Those}
+use Rattle.idlist.proofs.Marks.{none-named, or-bits}
+
+-- ---- the words of a value whose first word began with w
+
+abbrev begun : List ℕ → List (List ℕ) → List (List ℕ)
+begun w [] = w ∷ []
+begun w (u ∷ us) = (w ++ u) ∷ us
+
+begun-onto : (w : List ℕ) (x : ℕ) (ws : List (List ℕ)) → begun w (onto x ws) ≡ begun (w ++ x ∷ []) ws
+begun-onto w x [] = refl
+begun-onto w x (u ∷ us) = ap (λ l. l ∷ us) (sym (append-assoc w (x ∷ []) u))
+
+-- there is always a word
+onto-some : (x : ℕ) (ws : List (List ℕ)) → begun [] (onto x ws) ≡ onto x ws
+onto-some x [] = refl
+onto-some x (u ∷ us) = refl
+
+begun-none : (s : List ℕ) → begun [] (words 44 s) ≡ words 44 s
+begun-none [] = refl
+begun-none (x ∷ s) = go (eqb x 44)
+  where
+    go : (b : Bool) → begun [] (elim b [ true ↦ [] ∷ words 44 s | false ↦ onto x (words 44 s) ]) ≡ elim b [ true ↦ [] ∷ words 44 s | false ↦ onto x (words 44 s) ]
+    go true = refl
+    go false = onto-some x (words 44 s)
+
+first-wrong : (w : List ℕ) (ws : List (List ℕ)) → ((u : List ℕ) → isRequestId (w ++ u) ≡ false) → all isRequestId (begun w ws) ≡ false
+first-wrong w [] f = rw (ap isRequestId (sym (append-nil w)) ∙ f [])
+first-wrong w (u ∷ us) f = rw (f u)
+
+-- ---- when a word is an id
+
+not-all : (w u : List ℕ) (x : ℕ) → isDigit x ≡ false → all isDigit (w ++ x ∷ u) ≡ false
+not-all [] u x e = rw e
+not-all (y ∷ w) u x e = rw (not-all w u x e, and-false)
+
+no-id : (w u : List ℕ) (x : ℕ) → isDigit x ≡ false → isRequestId ((w ++ x ∷ []) ++ u) ≡ false
+no-id w u x e = rw (append-assoc w (x ∷ []) u, not-all w u x e, and-false)
+
+too-long : (w u : List ℕ) → 10 < length w → isRequestId (w ++ u) ≡ false
+too-long w u h = rw (lt-leb (length (w ++ u)) 10 (omega (arith, length-append w u)), and-false)
+
+-- a word of at most ten digits
+whole-word : (w : List ℕ) → all isDigit w ≡ true → length w ≤ 10 → isRequestId w ≡ inRange (numberOf w) (length w)
+whole-word w a h = rw (a, le-leb (length w) 10 h) (go (leb 1 (length w)))
+  where
+    go : (b : Bool) → b && true && true && leb (numberOf w) 4294967295 ≡ b && leb (numberOf w) 4294967295
+    go true = refl
+    go false = refl
+
+-- ---- the pass
+
+module _ (ids : List ℕ) where
+  -- the places of those listed
+  abbrev found : List ℕ → ℕ
+  found l = bitsFrom 0 l (take 64 ids)
+
+  -- what is left of the pass: bits found so far, value and count of the digits since the last comma, bytes left
+  abbrev left : ℕ → ℕ → ℕ → List ℕ → Which
+  left bits value count [] = elim (inRange value count) [ true ↦ Those (bitOr bits (found (value ∷ []))) | false ↦ Illegal ]
+  left bits value count (x ∷ s) = elim (eqb x 44) [
+    | true ↦ elim (inRange value count) [ true ↦ left (bitOr bits (found (value ∷ []))) 0 0 s | false ↦ Illegal ]
+    | false ↦ elim (isDigit x) [
+      | true ↦ elim (eqb count 10) [ true ↦ Illegal | false ↦ left bits (value * 10 + (x - 48)) (count + 1) s ]
+      | false ↦ Illegal
+    ]
+  ]
+
+  -- what the words say, where the ids of l were found before them
+  abbrev outcome : List ℕ → List (List ℕ) → Which
+  outcome l ws = elim (all isRequestId ws) [ true ↦ Those (found (l ++ map numberOf ws)) | false ↦ Illegal ]
+
+  wrong : (l : List ℕ) (ws : List (List ℕ)) → all isRequestId ws ≡ false → Illegal ≡ outcome l ws
+  wrong l ws e = rw (e, outcome)
+
+  last : (l w : List ℕ) (c : Bool) → isRequestId w ≡ c
+      → elim c [ true ↦ Those (bitOr (found l) (found (numberOf w ∷ []))) | false ↦ Illegal ] ≡ outcome l (w ∷ [])
+  last l w true e = rw (e, outcome) (ap Those (or-bits l (numberOf w ∷ []) (take 64 ids)))
+  last l w false e = rw (e, outcome)
+
+  word : (l w : List ℕ) (ws : List (List ℕ)) → isRequestId w ≡ true → outcome (l ++ numberOf w ∷ []) ws ≡ outcome l (w ∷ ws)
+  word l w ws e =
+      ap (λ m. elim (all isRequestId ws) [ true ↦ Those (found m) | false ↦ Illegal ]) (append-assoc l (numberOf w ∷ []) (map numberOf ws))
+      ∙ rw (e, outcome)
+
+  comma : (l w s : List ℕ) (c : Bool) → isRequestId w ≡ c
+      → left (found (l ++ numberOf w ∷ [])) 0 0 s ≡ outcome (l ++ numberOf w ∷ []) (begun [] (words 44 s))
+      → elim c [ true ↦ left (bitOr (found l) (found (numberOf w ∷ []))) 0 0 s | false ↦ Illegal ] ≡ outcome l (w ∷ words 44 s)
+  comma l w s true e more =
+      ap (λ b. left b 0 0 s) (or-bits l (numberOf w ∷ []) (take 64 ids))
+      ∙ more
+      ∙ ap (outcome (l ++ numberOf w ∷ [])) (begun-none s)
+      ∙ word l w (words 44 s) e
+  comma l w s false e more = wrong l (w ∷ words 44 s) (rw e)
+
+  -- what a digit more gives, and what it has to give
+  abbrev goesOn : List ℕ → List ℕ → List ℕ → ℕ → Which
+  goesOn l w s x = left (found l) (numberOf w * 10 + (x - 48)) (length w + 1) s
+
+  abbrev due : List ℕ → List ℕ → List ℕ → ℕ → Which
+  due l w s x = outcome l (begun (w ++ x ∷ []) (words 44 s))
+
+  full : (l w s : List ℕ) (x : ℕ) (c : Bool) → eqb (length w) 10 ≡ c → (length w ≢ 10 → goesOn l w s x ≡ due l w s x)
+      → elim c [ true ↦ Illegal | false ↦ goesOn l w s x ] ≡ due l w s x
+  full l w s x true e more =
+      let ten : length w ≡ 10 = eqb-true (length w) 10 e in
+      wrong l (begun (w ++ x ∷ []) (words 44 s))
+      (first-wrong (w ++ x ∷ []) (words 44 s) (λ u. too-long (w ++ x ∷ []) u (omega (arith, length-append w (x ∷ [])))))
+  full l w s x false e more = more (eqb-false (length w) 10 e)
+
+  other : (l w s : List ℕ) (x : ℕ) (d : Bool) → isDigit x ≡ d → (length w ≢ 10 → isDigit x ≡ true → goesOn l w s x ≡ due l w s x)
+      → elim d [ true ↦ elim (eqb (length w) 10) [ true ↦ Illegal | false ↦ goesOn l w s x ] | false ↦ Illegal ] ≡ due l w s x
+  other l w s x true e more = full l w s x (eqb (length w) 10) refl (λ k. more k e)
+  other l w s x false e more =
+      wrong l (begun (w ++ x ∷ []) (words 44 s)) (first-wrong (w ++ x ∷ []) (words 44 s) (λ u. no-id w u x e))
+
+  snoc : (l w s : List ℕ) (x : ℕ) → left (found l) (numberOf (w ++ x ∷ [])) (length (w ++ x ∷ [])) s ≡ due l w s x → goesOn l w s x ≡ due l w s x
+  snoc l w s x more =
+      ap₂ (λ v k. left (found l) v k s) (sym (decimal-append 0 w (x ∷ []))) (sym (length-append w (x ∷ []))) ∙ more
+
+  -- a word that began with the digits w, after the ids of l
+  pass : (s l w : List ℕ) → all isDigit w ≡ true → length w ≤ 10 → left (found l) (numberOf w) (length w) s ≡ outcome l (begun w (words 44 s))
+  pass [] l w a h =
+      last l w (inRange (numberOf w) (length w)) (whole-word w a h) ∙ ap (λ u. outcome l (u ∷ [])) (sym (append-nil w))
+  pass (x ∷ s) l w a h =
+      go (eqb x 44) (pass s (l ++ numberOf w ∷ []) [] refl (omega arith))
+      (λ k d. snoc l w s x (pass s l (w ++ x ∷ []) (all-append isDigit w (x ∷ []) a (rw d)) (omega (arith, length-append w (x ∷ []), k))))
+    where
+      go : (b : Bool) → left (found (l ++ numberOf w ∷ [])) 0 0 s ≡ outcome (l ++ numberOf w ∷ []) (begun [] (words 44 s))
+          → (length w ≢ 10 → isDigit x ≡ true → goesOn l w s x ≡ due l w s x)
+          → elim b [
+            | true ↦ elim (inRange (numberOf w) (length w)) [
+              | true ↦ left (bitOr (found l) (found (numberOf w ∷ []))) 0 0 s
+              | false ↦ Illegal
+            ]
+            | false ↦ elim (isDigit x) [ true ↦ elim (eqb (length w) 10) [ true ↦ Illegal | false ↦ goesOn l w s x ] | false ↦ Illegal ]
+          ] ≡ outcome l (begun w (elim b [ true ↦ [] ∷ words 44 s | false ↦ onto x (words 44 s) ]))
+      go true more next =
+          comma l w s (inRange (numberOf w) (length w)) (whole-word w a h) more
+          ∙ ap (λ u. outcome l (u ∷ words 44 s)) (sym (append-nil w))
+      go false more next = other l w s x (isDigit x) refl next ∙ ap (outcome l) (sym (begun-onto w x (words 44 s)))
+
+  whole : (v : List ℕ) → left 0 0 0 v ≡ namedIn v ids
+  unfolding namedIn isIdList idsOf
+  whole v =
+      ap (λ b. left b 0 0 v) (sym (none-named (take 64 ids))) ∙ pass v [] [] refl (omega arith) ∙ ap (outcome []) (begun-none v)
+
+-- ---- each way that the code goes
+
+-- at i, what is left of the pass is the whole
+pub record Midway (ids v : List ℕ) (bits value count i : ℕ) : Type 0 where
+  pub same : left ids bits value count (drop i v) ≡ namedIn v ids
+
+pub started : (ids v : List ℕ) → Midway ids v 0 0 0 0
+started ids v = record { same = whole ids v }
+
+module _ {ids v : List ℕ} {bits value count i : ℕ} (m : Midway ids v bits value count i) where
+  module _ (h : length v ≤ i) where
+    ended : left ids bits value count [] ≡ namedIn v ids
+    ended = ap (left ids bits value count) (sym (drop-of-length-le v h)) ∙ m .same
+
+    pub end-id : {p : ℕ} {r : Bool} → p ≡ found ids (value ∷ []) → r ≡ inRange value count → not r ≡ false → Those (bitOr bits p) ≡ namedIn v ids
+    end-id {p} {r} e q n = rw (e, ← ended, ← q, not-false r n, left)
+
+    pub end-wrong : {r : Bool} → r ≡ inRange value count → not r ≡ true → Illegal ≡ namedIn v ids
+    end-wrong {r} q n = rw (← ended, ← q, not-true r n, left)
+
+  module _ (h : i < length v) where
+    abbrev x : ℕ
+    x = getD v i 0
+
+    abbrev s : List ℕ
+    s = drop (i + 1) v
+
+    here : left ids bits value count (x ∷ s) ≡ namedIn v ids
+    here = let e : drop i v ≡ x ∷ s = rw (add-one, drop-cons v i 0) in ap (left ids bits value count) (sym e) ∙ m .same
+
+    pub turn-id : {p : ℕ} {r : Bool} → p ≡ found ids (value ∷ []) → x ≡ 44 → r ≡ inRange value count → not r ≡ false
+        → Midway ids v (bitOr bits p) 0 0 (i + 1)
+    turn-id {p} {r} e c q n = record { same = rw (e, ← here, eq-eqb x 44 c, ← q, not-false r n, left) }
+
+    pub turn-wrong : {r : Bool} → x ≡ 44 → r ≡ inRange value count → not r ≡ true → Illegal ≡ namedIn v ids
+    turn-wrong {r} c q n = rw (← here, eq-eqb x 44 c, ← q, not-true r n, left)
+
+    pub turn-other : {d : Bool} → x ≢ 44 → d ≡ isDigit x → not d ≡ true → Illegal ≡ namedIn v ids
+    turn-other {d} c q n = rw (← here, ne-eqb x 44 c, ← q, not-true d n, left)
+
+    pub turn-full : x ≢ 44 → isDigit x ≡ true → count ≡ 10 → Illegal ≡ namedIn v ids
+    turn-full c e k = rw (← here, ne-eqb x 44 c, e, eq-eqb count 10 k, left)
+
+    pub turn-digit : x ≢ 44 → isDigit x ≡ true → count ≢ 10 → Midway ids v bits (value * 10 + (x - 48)) (count + 1) (i + 1)
+    turn-digit c e k = record { same = rw (← here, ne-eqb x 44 c, e, ne-eqb count 10 k, left) }

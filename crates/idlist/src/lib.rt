@@ -1,0 +1,74 @@
+// A list of request-ids as a field's value has it: document 01, judgement 6 and STOP.
+ghost use mathlib.Core.Path.{_≡_};
+ghost use mathlib.Core.List.{[], _∷_};
+ghost use lib.ListN.{take};
+ghost use Rattle.idlist.specs.Named.{namedIn, bitsFrom, inRange};
+
+// Which of some ids a list names, bit j for the id at j; or that the list is no list.
+pub enum Which {
+    Illegal,
+    Those(u64),
+}
+
+// Whether some digits that number `count` and write `value` are a request-id.
+fn in_range(value: u64, count: usize) -> bool
+    ensures { λ r. ⌜ r ≡ inRange value count ⌝ }
+{
+    if count < 1 {
+        return false;
+    }
+    value <= 4294967295
+}
+
+// Where `id` stands among the first 64 of `ids`, a bit for each place.
+fn places(ids: &[u32], id: u64) -> u64
+    ensures { λ r. ⌜ r ≡ bitsFrom 0 (id ∷ []) (take 64 (now (ids .entry))) ⌝ }
+{
+    let mut bits: u64 = 0;
+    let mut j = 0;
+    while j < 64 {
+        if ids.len() <= j {
+            return bits;
+        }
+        if ids[j] as u64 == id {
+            bits = bits | (1 << j);
+        }
+        j += 1;
+    }
+    bits
+}
+
+// Which of `ids` the value `v` names, in one pass over `v`. Of more than 64 ids only the first 64 are looked for.
+pub fn named(v: &[u8], ids: &[u32]) -> Which
+    ensures { λ r. ⌜ r ≡ namedIn (now (v .entry)) (now (ids .entry)) ⌝ }
+{
+    let mut bits: u64 = 0;
+    let mut value: u64 = 0;
+    let mut count = 0;
+    let mut i = 0;
+    while i < v.len() {
+        let b = v[i];
+        i += 1;
+        if b == b',' {
+            if !in_range(value, count) {
+                return Which::Illegal;
+            }
+            bits = bits | places(ids, value);
+            value = 0;
+            count = 0;
+            continue;
+        }
+        if !octets::is_digit(b) {
+            return Which::Illegal;
+        }
+        if count == 10 {
+            return Which::Illegal;
+        }
+        value = value * 10 + (b - 48) as u64;
+        count += 1;
+    }
+    if !in_range(value, count) {
+        return Which::Illegal;
+    }
+    Which::Those(bits | places(ids, value))
+}
