@@ -92,24 +92,10 @@ pub fn command(line: &[u8]) -> Result<Option<Command>, String> {
             cause: number("cause", cause, u32::MAX)?,
             room: number("room", room, MOST_ROOM)? as usize,
         },
-        [b"respond", state, status, id, name, ids, room] => Command::Respond {
-            answer: Box::new(Answer {
-                id: number("id", id, u32::MAX)?,
-                status: number("status", status, 999)? as u16,
-                state: request_state(state)?,
-                list: ids_of(ids)?,
-            }),
-            name: hex(name)?,
-            room: number("room", room, MOST_ROOM)? as usize,
-        },
-        [b"complete", cause, id, name, room] => Command::Complete {
-            event: Event {
-                id: number("id", id, u32::MAX)?,
-                cause: number("cause", cause, u32::MAX)?,
-            },
-            name: hex(name)?,
-            room: number("room", room, MOST_ROOM)? as usize,
-        },
+        [b"respond", state, status, id, name, ids, room] => {
+            respond(state, status, id, name, ids, room)?
+        }
+        [b"complete", cause, id, name, room] => complete(cause, id, name, room)?,
         [b"channel", name, state, last, queue] => channel(name, state, last, queue, None)?,
         [b"channel", name, state, last, queue, count] => {
             channel(name, state, last, queue, Some(count))?
@@ -240,6 +226,39 @@ fn state_of(word: &[u8]) -> Result<State, String> {
         b"paused" => Ok(State::PAUSED),
         word => Ok(State(number("state", word, u8::MAX.into())? as u8)),
     }
+}
+
+fn respond(
+    state: &[u8],
+    status: &[u8],
+    id: &[u8],
+    name: &[u8],
+    ids: &[u8],
+    room: &[u8],
+) -> Result<Command, String> {
+    let answer = Answer {
+        id: number("id", id, u32::MAX)?,
+        status: number("status", status, 999)? as u16,
+        state: request_state(state)?,
+        list: ids_of(ids)?,
+    };
+    Ok(Command::Respond {
+        answer: Box::new(answer),
+        name: hex(name)?,
+        room: number("room", room, MOST_ROOM)? as usize,
+    })
+}
+
+fn complete(cause: &[u8], id: &[u8], name: &[u8], room: &[u8]) -> Result<Command, String> {
+    let event = Event {
+        id: number("id", id, u32::MAX)?,
+        cause: number("cause", cause, u32::MAX)?,
+    };
+    Ok(Command::Complete {
+        event,
+        name: hex(name)?,
+        room: number("room", room, MOST_ROOM)? as usize,
+    })
 }
 
 fn request_state(word: &[u8]) -> Result<RequestState, String> {

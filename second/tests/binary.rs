@@ -132,6 +132,17 @@ const UNREADABLE: &[&str] = &[
     "report 0 1000001",
     "report - 0",
     "report 0 0 0",
+    "respond PENDING 200 7 61 -",
+    "respond pending 200 7 61 - 305",
+    "respond PENDING 1000 7 61 - 305",
+    "respond PENDING 200 4294967296 61 - 305",
+    "respond PENDING 200 7 6 - 305",
+    "respond PENDING 200 7 61 1, 305",
+    "respond PENDING 200 7 61 4294967296 305",
+    "respond PENDING 200 7 61 - 1000001",
+    "complete 0 7 61",
+    "complete x 7 61 305",
+    "complete 0 7 61 -1",
     "show 1",
     "channel - idle -",
     "channel - idle - - - -",
@@ -154,7 +165,8 @@ fn unreadable_lines() {
     let long = format!("channel {} idle - -", "61".repeat(45));
     let many = format!("channel - idle - {}", vec!["1+"; 17].join(","));
     let huge = format!("frame {}", "00".repeat(1_000_001));
-    let longer = [&long[..], &many, &huge];
+    let listed = format!("respond PENDING 200 7 61 {} 305", vec!["1"; 17].join(","));
+    let longer = [&long[..], &many, &huge, &listed];
     for &line in UNREADABLE.iter().chain(&longer) {
         let script = format!("# first\nframe -\n\n{line}\nframe -\n");
         for act in ["play", "tell"] {
@@ -168,6 +180,26 @@ fn unreadable_lines() {
             }
         }
     }
+}
+
+#[test]
+fn messages_written_outside_a_channel() {
+    let answer = "MRCP/2.0 51 7 200 PENDING\r\nChannel-Identifier:a\r\n\r\n";
+    let hex = |text: &str| -> String { text.bytes().map(|byte| format!("{byte:02x}")).collect() };
+    let length = answer.len();
+    assert_eq!(length, 51);
+    let shown = played(&format!("respond PENDING 200 7 61 - {length}\n"));
+    assert_eq!(shown, format!("respond 0 {}\n", hex(answer)));
+    let short = played(&format!("respond PENDING 200 7 61 - {}\n", length - 1));
+    assert_eq!(short, "respond 7 -\n");
+    assert_eq!(played("complete 8 7 61 305\n"), "complete 9 -\n");
+    assert_eq!(played("complete 8 7 61 0\n"), "complete 9 -\n");
+    let written = played("complete 0 7 61 305\n");
+    let begin = hex("MRCP/2.0 92 SPEAK-COMPLETE 7 COMPLETE\r\n");
+    assert!(
+        written.starts_with(&format!("complete 0 {begin}")),
+        "{written}"
+    );
 }
 
 #[test]

@@ -95,9 +95,12 @@ sized f at (good fs body) j = record {
   array = length-append (map fieldOf fs) (replicate (32 - length fs) noField) ∙ rw (length-map, length-replicate) (omega (arith, j .few));
 }
 
+pub header-sized : (f : List ℕ) (at : ℕ) (h : Header) → h ≡ headerOf f (fieldsFrom f at) → Sized h
+header-sized f at h e = rw e (sized f at (fieldsFrom f at) (fields-from f at))
+
 module _ (f : List ℕ) (at major minor : ℕ) (n : StartNumbers) (h : Header) (e : h ≡ headerOf f (fieldsFrom f at)) where
-  pub header-sized : Sized h
-  header-sized = rw e (sized f at (fieldsFrom f at) (fields-from f at))
+  size : Sized h
+  size = header-sized f at h e
 
   abbrev pub answer : List ℕ
   answer = numbersOf major minor n ++ fieldsNumbers f (fieldsFrom f at)
@@ -109,7 +112,7 @@ module _ (f : List ℕ) (at major minor : ℕ) (n : StartNumbers) (h : Header) (
   answer-size =
       let fields = h .fields in
       ap length (sym answer-is)
-      ∙ sym (laid-size (headNumbers major minor n (gist h)) [] fields (h .count) (omega (arith, header-sized .few, header-sized .array)) refl)
+      ∙ sym (laid-size (headNumbers major minor n (gist h)) [] fields (h .count) (omega (arith, size .few, size .array)) refl)
 
   pub hand-short : (out : List ℕ) → length out < 16 + 4 * h .count → record { number = 7; out = out } ≡ handed answer out
   hand-short out l = sym (too-short answer out (omega (arith, answer-size)))

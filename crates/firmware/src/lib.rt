@@ -115,6 +115,23 @@ fn good_number(good: bool) -> u64
     if good { 1 } else { 0 }
 }
 
+// The four numbers of a field at `at`.
+fn put_field(out: &mut [u64], at: usize, x: header::Field)
+    requires { ⌜ at + 4 ≤ length (now out) ⌝ }
+    ensures { λ _. ⌜ now (out .exit) ≡ take at (now (out .entry)) ++ (x .name .start ∷ x .name .len ∷ x .value .start ∷ x .value .len ∷ []) ++ drop (at + 4) (now (out .entry)) ⌝ }
+{
+    let name = x.name;
+    let value = x.value;
+    put_four(
+        out,
+        at,
+        name.start as u64,
+        name.len as u64,
+        value.start as u64,
+        value.len as u64,
+    );
+}
+
 // The message's numbers at the front of `out`, or 7 where they are more than it holds.
 fn hand_over(f: &[u8], at: usize, major: u64, minor: u64, n: StartNumbers, out: &mut [u64]) -> u32
     ensures { λ r. ⌜ record { number = r; out = now (out .exit) } ≡ handed (numbersOf major minor n ++ fieldsNumbers (now (f .entry)) (fieldsFrom (now (f .entry)) at)) (now (out .entry)) ⌝ }
@@ -141,17 +158,7 @@ fn hand_over(f: &[u8], at: usize, major: u64, minor: u64, n: StartNumbers, out: 
     );
     let mut j = 0;
     while j < count {
-        let x = h.fields[j];
-        let a = x.name;
-        let v = x.value;
-        put_four(
-            out,
-            16 + 4 * j,
-            a.start as u64,
-            a.len as u64,
-            v.start as u64,
-            v.len as u64,
-        );
+        put_field(out, 16 + 4 * j, h.fields[j]);
         j += 1;
     }
     0

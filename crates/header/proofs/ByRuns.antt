@@ -11,7 +11,7 @@ use native.Mathlib.Omega.{arith}
 use lib.Dec.{eqb, leb, ltb, leb·zero, leb·suc-suc, eqb·suc-zero}
 use lib.ListN.{length, drop, take}
 use lib.Seq.{drop-drop, take-nil}
-use borrow.Author.Tests.{ne-eqb, eqb-true}
+use borrow.Author.Tests.{eqb-true}
 use Rattle.lists.specs.Lists.{all, run}
 use Rattle.lists.proofs.Tests.{both}
 use Rattle.lists.proofs.Scans.{run-length}
@@ -21,7 +21,7 @@ use Rattle.readers.proofs.Cuts.{line-end, line-on}
 use Rattle.message.specs.Message.{Field}
 use Rattle.message.specs.Fields.{trimEnd, trimmed, Line, empty, field, isPlain, lineAt, fieldLine}
 use Rattle.message.specs.declared.Span.{Span}
-use Rattle.readers.proofs.Positions.{run-yes, run-no}
+use Rattle.readers.proofs.Positions.{apart, run-yes, run-no}
 
 -- the field with a name of k bytes at `at` and the value v, b blanks past the colon; blanks at its end are dropped
 abbrev pub places : ℕ → ℕ → ℕ → List ℕ → Field Span
@@ -52,10 +52,6 @@ named at k l = elim (eqb k 0) [
 
 abbrev pub lineBy : ℕ → List ℕ → Line
 lineBy at l = named at (run isName l) l
-
--- a byte that passes a test is none that fails it
-apart : (test : ℕ → Bool) (b x : ℕ) → test b ≡ false → test x ≡ true → eqb x b ≡ false
-apart test b x n y = ne-eqb x b (λ e. false≢true (sym n ∙ ap test (sym e) ∙ y))
 
 not-crlf : (x : ℕ) (l : List ℕ) → eqb x 13 ≡ false → isCrlf (x ∷ l) ≡ false
 not-crlf x l e = ap (λ b. b && starts 10 l) e

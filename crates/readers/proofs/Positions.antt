@@ -1,5 +1,5 @@
 -- How a run, a byte and CRLF stand at a place of a list, one law for each way that a loop's turn can go. Assumes nothing.
-use mathlib.Core.Path.{_≡_, ap, _∙_}
+use mathlib.Core.Path.{_≡_, sym, ap, _∙_}
 use mathlib.Core.Bool.{Bool, true, false, _&&_, false≢true}
 use mathlib.Core.List.{List, [], _∷_}
 use Prim.Native.Nat.{ℕ, zero, suc, _+_, _<_, _≤_}
@@ -9,10 +9,16 @@ use native.Mathlib.Omega.{arith}
 use lib.Dec.{eqb}
 use lib.ListN.{length, getD, drop, drop-of-length-le}
 use lib.Seq.{drop-cons}
+use borrow.Author.Tests.{ne-eqb}
 use Rattle.lists.specs.Lists.{run}
 use Rattle.lists.proofs.Tests.{both}
 use Rattle.readers.specs.Words.{starts, isCrlf}
 
+-- a byte that passes a test is none that fails it
+pub apart : (test : ℕ → Bool) (b x : ℕ) → test b ≡ false → test x ≡ true → eqb x b ≡ false
+apart test b x n y = ne-eqb x b (λ e. false≢true (sym n ∙ ap test (sym e) ∙ y))
+
+-- what is left where there is a byte
 pub here : (s : List ℕ) (i : ℕ) → i < length s → drop i s ≡ getD s i 0 ∷ drop (i + 1) s
 here s i h = rw (add-one, drop-cons s i 0)
 

@@ -8,7 +8,6 @@ use native.Mathlib.Nat.{add-assoc, add-zero, zero-add, sub-zero, not-suc-le-zero
 use native.Mathlib.Numerals.{add-one, sub-one}
 use native.Mathlib.Omega.{arith}
 use lib.ListN.{length, getD, take, drop, drop-of-length-le}
-use lib.Seq.{drop-cons}
 use borrow.Author.Tests.{eq-eqb, ne-eqb}
 use Rattle.lists.specs.Lists.{run}
 use Rattle.octets.specs.Octets.{isDigit}
@@ -19,6 +18,7 @@ use Rattle.readers.specs.declared.Place.{Place}
 use Rattle.readers.specs.declared.Scan.{Scan}
 use Rattle.readers.specs.declared.Digits.{Digits}
 use Rattle.readers.proofs.Steps.{byte-yes, byte-no}
+use Rattle.readers.proofs.Positions.{here}
 
 placed-after : (i : ℕ) (r : Read (Unit {0})) → placed i (after 1 r) ≡ placed (i + 1) r
 placed-after i short = refl
@@ -29,10 +29,6 @@ scanned-after : (i : ℕ) (r : Read ℕ) → scanned i (after 1 r) ≡ scanned (
 scanned-after i short = refl
 scanned-after i wrong = refl
 scanned-after i (got v n) = ap (Scan.Got v) (sym (add-assoc i 1 n))
-
--- what is left where there is a byte
-here : (s : List ℕ) (i : ℕ) → i < length s → drop i s ≡ getD s i 0 ∷ drop (i + 1) s
-here s i h = rw (add-one, drop-cons s i 0)
 
 module _ {A : Type 0} (test : ℕ → Bool) (f : ℕ → Reader A) (other : Read A) (s : List ℕ) (i : ℕ) where
   yes-at : i < length s → test (getD s i 0) ≡ true → byte test f other (drop i s) ≡ after 1 (f (getD s i 0) (drop (i + 1) s))

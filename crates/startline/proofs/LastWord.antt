@@ -21,7 +21,8 @@ use Rattle.message.specs.declared.RequestState.the-variants.{Pending, InProgres
 use Rattle.startline.specs.Runs.{isNaming, begins, lastOf, lastAt}
 use Rattle.startline.specs.Rules.{said, told, made, lastWord}
 use Rattle.startline.specs.declared.Last.{Last}
-use Rattle.startline.proofs.Said.{apart, ended, told-same, told-nothing}
+use Rattle.readers.proofs.Positions.{apart}
+use Rattle.startline.proofs.Said.{ended, told-same, told-nothing}
 use Rattle.startline.proofs.Judged.{run-told}
 
 -- the start that a state makes, where it is found

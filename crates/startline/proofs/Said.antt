@@ -1,7 +1,7 @@
 -- The words of a line, told from its front: behind a word's bytes stand a space, the line's end, or a byte that is the word's own.
 -- Assumes nothing.
 use mathlib.Core.Path.{_≡_, refl, sym, ap, _∙_}
-use mathlib.Core.Bool.{Bool, true, false, _&&_, false≢true}
+use mathlib.Core.Bool.{Bool, true, false, _&&_}
 use mathlib.Core.Option.{Option, none, some}
 use mathlib.Core.List.{List, [], _∷_, _++_}
 use Prim.Native.Nat.{ℕ, suc, _+_, _<_}
@@ -9,11 +9,12 @@ use native.Mathlib.Omega.{arith}
 use lib.Dec.{eqb}
 use lib.ListN.{length, drop}
 use lib.Seq.{drop-drop}
-use borrow.Author.Tests.{eqb-true, ne-eqb}
+use borrow.Author.Tests.{eqb-true}
 use Rattle.lists.specs.Lists.{all}
 use Rattle.lists.proofs.Tests.{both}
 use Rattle.readers.specs.Words.{starts, isCrlf, behind, line, onto, words}
 use Rattle.readers.proofs.Cuts.{line-end, line-on}
+use Rattle.readers.proofs.Positions.{apart}
 use Rattle.message.specs.StartLines.{Started, goingOn, lineStart, startOf, startLine}
 use Rattle.startline.specs.Rules.{Rule, parted, said, size, told}
 
@@ -72,10 +73,6 @@ said-space l = go (line l)
     go (some m) = refl
 
 -- ---- word by word
-
--- a byte that passes a test is none that fails it
-pub apart : (test : ℕ → Bool) (b x : ℕ) → test b ≡ false → test x ≡ true → eqb x b ≡ false
-apart test b x n y = ne-eqb x b (λ e. false≢true (sym n ∙ ap test (sym e) ∙ y))
 
 -- a line whose first word has the bytes w and then x in front
 abbrev Begun : List ℕ → ℕ → Option (List (List ℕ)) → Type 0
