@@ -3,21 +3,40 @@
 
 #include <stdio.h>
 #include <stdlib.h>
+#include <string.h>
 #include <sys/mman.h>
 #include <unistd.h>
 
-struct arena arena_make(size_t most) {
+enum { FILLED = 0xa5 };
+
+static unsigned char *start[BUFFERS];
+static size_t mapped;
+static int at_front;
+
+void lend_begin(size_t most, int front) {
   size_t page = (size_t)sysconf(_SC_PAGESIZE);
-  size_t size = (most + page - 1) / page * page + page;
-  unsigned char *all = mmap(NULL, size + 2 * page, PROT_NONE, MAP_PRIVATE | MAP_ANONYMOUS, -1, 0);
-  if (all == MAP_FAILED || mprotect(all + page, size, PROT_READ | PROT_WRITE) != 0) {
-    perror("play: no memory to lend");
-    exit(1);
+  mapped = (most + page - 1) / page * page;
+  at_front = front;
+  for (int which = 0; which < BUFFERS; which++) {
+    unsigned char *all = mmap(NULL, mapped + 2 * page, PROT_NONE, MAP_PRIVATE | MAP_ANONYMOUS, -1, 0);
+    if (all == MAP_FAILED || mprotect(all + page, mapped, PROT_READ | PROT_WRITE) != 0) {
+      perror("no memory to lend");
+      exit(1);
+    }
+    start[which] = all + page;
   }
-  struct arena a = {all + page, size};
-  return a;
 }
 
-void *arena_lend(const struct arena *a, size_t size, int front) {
-  return front ? a->start : a->start + a->size - size;
+void *lend(enum buffer which, size_t size) {
+  unsigned char *lent = at_front ? start[which] : start[which] + mapped - size;
+  return memset(lent, FILLED, size);
+}
+
+void *lend_copy(enum buffer which, const void *from, size_t size) { return memcpy(lend(which, size), from, size); }
+
+int lend_untouched(const void *from, size_t size) {
+  const unsigned char *bytes = from;
+  for (size_t i = 0; i < size; i++)
+    if (bytes[i] != FILLED) return 0;
+  return 1;
 }

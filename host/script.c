@@ -5,11 +5,27 @@
 #include <string.h>
 #include <sys/types.h>
 
-void script_unreadable(const struct script *s, const char *why) {
-  fflush(stdout);
-  fprintf(stderr, "play: line %lu: %s\n", s->line, why);
-  exit(2);
+struct script script_open(const char *program, int words, char **word) {
+  struct script s = {.program = program, .from = stdin};
+  if (words > 1) {
+    fprintf(stderr, "%s: more words than one file\n", program);
+    exit(2);
+  }
+  if (words == 1 && !(s.from = fopen(word[0], "r"))) {
+    fprintf(stderr, "%s: ", program);
+    perror(word[0]);
+    exit(2);
+  }
+  return s;
 }
+
+void script_fail(const struct script *s, int status, const char *why) {
+  fflush(stdout);
+  fprintf(stderr, "%s: line %lu: %s\n", s->program, s->line, why);
+  exit(status);
+}
+
+void script_unreadable(const struct script *s, const char *why) { script_fail(s, 2, why); }
 
 /* the line without its comment, the spaces in front of that, and its line end */
 static void strip(struct script *s, size_t length) {
@@ -44,7 +60,17 @@ int script_next(struct script *s) {
     take_apart(s);
     return 1;
   }
+  if (ferror(s->from)) {
+    fprintf(stderr, "%s: the script cannot be read\n", s->program);
+    exit(2);
+  }
   return 0;
+}
+
+int script_end(const struct script *s) {
+  if (fflush(stdout) == 0 && !ferror(stdout)) return 0;
+  fprintf(stderr, "%s: the output cannot be written\n", s->program);
+  return 1;
 }
 
 static int digit(char c) {
@@ -53,30 +79,31 @@ static int digit(char c) {
   return -1;
 }
 
-unsigned long script_number(const struct script *s, const char *word, unsigned long most) {
-  unsigned long value = 0;
+uint64_t script_number(const struct script *s, const char *word, uint64_t most) {
+  uint64_t value = 0;
   if (*word == 0) script_unreadable(s, "a number is missing");
   for (; *word; word++) {
     if (*word < '0' || *word > '9') script_unreadable(s, "a word that is no number");
-    value = value * 10 + (unsigned long)(*word - '0');
-    if (value > most) script_unreadable(s, "a number that is too great");
+    uint64_t last = (uint64_t)(*word - '0');
+    if (last > most || value > (most - last) / 10) script_unreadable(s, "a number that is too great");
+    value = value * 10 + last;
   }
   return value;
 }
 
-size_t script_bytes(const struct script *s, const char *word, unsigned char *bytes) {
+size_t script_bytes(const struct script *s, const char *word, uint8_t *bytes) {
   if (strcmp(word, "-") == 0) return 0;
   size_t length = strlen(word);
   if (length % 2 || length > 2 * (size_t)MOST_BYTES) script_unreadable(s, "bytes are pairs of hexadecimal digits");
   for (size_t i = 0; i < length / 2; i++) {
     int high = digit(word[2 * i]), low = digit(word[2 * i + 1]);
     if (high < 0 || low < 0) script_unreadable(s, "bytes are pairs of lower-case hexadecimal digits");
-    bytes[i] = (unsigned char)(16 * high + low);
+    bytes[i] = (uint8_t)(16 * high + low);
   }
   return length / 2;
 }
 
-void script_write(const unsigned char *bytes, size_t count) {
+void script_write(const uint8_t *bytes, size_t count) {
   static const char digits[] = "0123456789abcdef";
   if (count == 0) putchar('-');
   for (size_t i = 0; i < count; i++) {

@@ -1,13 +1,15 @@
-/* The script language: one command a line, words parted by one space, `#` begins a comment. */
+/* The lines of a script: one command a line, words parted by one space, `#` begins a comment. */
 #ifndef SCRIPT_H
 #define SCRIPT_H
 
 #include <stddef.h>
+#include <stdint.h>
 #include <stdio.h>
 
 enum { MOST_BYTES = 1000000, MOST_WORDS = 7 };
 
 struct script {
+  const char *program; /* who reads it, for messages */
   FILE *from;
   unsigned long line; /* the number of the line in hand, from 1 */
   char *text;
@@ -16,19 +18,28 @@ struct script {
   int words;
 };
 
+/* The script that the program's words name: a file, or standard input where there is no further word. Ends the program with status 2 otherwise. */
+struct script script_open(const char *program, int words, char **word);
+
 /* The next line that holds a command, taken apart; 0 at the end. An unreadable line ends the program with status 2. */
 int script_next(struct script *s);
 
-/* Ends the program with status 2: the line's number and what is wrong, on standard error. */
+/* The program's status at the end: 0; or 1, with a message, where the output could not be written. */
+int script_end(const struct script *s);
+
+/* Ends the program: the line's number and what is wrong, on standard error. */
+void script_fail(const struct script *s, int status, const char *why);
+
+/* The same with status 2. */
 void script_unreadable(const struct script *s, const char *why);
 
 /* A number, at most `most`. */
-unsigned long script_number(const struct script *s, const char *word, unsigned long most);
+uint64_t script_number(const struct script *s, const char *word, uint64_t most);
 
 /* Lower-case hexadecimal pairs, or `-` for none, into bytes: their count. */
-size_t script_bytes(const struct script *s, const char *word, unsigned char *bytes);
+size_t script_bytes(const struct script *s, const char *word, uint8_t *bytes);
 
 /* Writes bytes the same way. */
-void script_write(const unsigned char *bytes, size_t count);
+void script_write(const uint8_t *bytes, size_t count);
 
 #endif

@@ -1,16 +1,35 @@
-/* Klarvesimo: framing and reading MRCPv2 messages (RFC 6787), proved for all inputs.
+/* Klarvesimo: the server end of one MRCPv2 channel for a speech synthesizer (RFC 6787), proved for all inputs.
  *
- * Each call hands over numbers and buffers and gets numbers back. Nothing is kept between calls, nothing is allocated, and no
- * byte outside what is lent is read or written. Every call returns 0, or the number of a refusal:
+ * Each call hands over numbers and buffers and gets numbers back. The channel is an array that the caller keeps; else nothing is kept
+ * between calls, nothing is allocated, and no byte outside what is lent is read or written. Every call returns 0, or the number of a refusal:
  *
- *    1  more bytes are needed                    4  the stated length is below the opening's own length
- *    2  the bytes can't begin a message          5  framed, but the start line is malformed
- *    3  the stated length is above 16,384        7  the answer is longer than the lent output
+ *    1  more bytes are needed                                  7  the exact answer is longer than the lent output
+ *    2  the bytes can't begin a message                        8  an engine report while nothing is speaking (idle or paused)
+ *    3  the stated length is above 16,384                      9  an engine cause above 7
+ *    4  the stated length is below the opening's own length   10  the channel name is malformed
+ *    5  framed, but the start line is malformed               21  the channel handed in is not sound
+ *    6  framed, but a response or an event, no request
  *
- * A refused call leaves the lent output as it was. After 2, 3 or 4 the same bytes give the same number again, whatever follows
- * them: close the connection. Refusals 1 to 5 come before 7.
+ * Where two hold at once, 21 comes before all others, 1 to 6 before 7, 9 before 8, and 8 before 7. A refused call leaves the lent output and, but
+ * for klarvesimo_open, the channel as they were; the counts that it sets say what was consumed, which is the stated length after 5 and 6 and
+ * else 0, and that nothing was written. After 2, 3 or 4 the same bytes give the same number again, whatever follows them: close the connection.
  *
  * A pointer must be valid for the count beside it; where the count is 0 it is not followed. Lent buffers must not overlap.
+ *
+ * A conversation, with `lent` bytes of the client's at `bytes`:
+ *
+ *    uint64_t channel[KLARVESIMO_CHANNEL], counts[2], written, ids[KLARVESIMO_MOST_HELD], held;
+ *    uint8_t out[KLARVESIMO_LONGEST_ANSWER];
+ *    if (klarvesimo_open(channel, name, length) != 0) return;                     // 10: no such channel can be
+ *    do {                                                                         // each message that has come whole
+ *      number = klarvesimo_handle(channel, bytes, lent, out, sizeof out, counts);
+ *      send_to_client(out, counts[KLARVESIMO_WRITTEN]);                           // nothing where it was refused
+ *      bytes += counts[KLARVESIMO_CONSUMED], lent -= counts[KLARVESIMO_CONSUMED];
+ *    } while (counts[KLARVESIMO_CONSUMED] > 0);
+ *    if (number != 1) close_connection();                                         // 2, 3, 4; after 1 wait for more bytes
+ *    if (engine_has_ended && klarvesimo_report(channel, 0, out, sizeof out, &written) == 0) send_to_client(out, written);
+ *    if (klarvesimo_held(channel, ids, KLARVESIMO_MOST_HELD, &held) == 0)         // the prompts that are speaking or waiting
+ *      for (uint64_t i = 0; i < held; i++) show_prompt(ids[i]);
  */
 #ifndef KLARVESIMO_H
 #define KLARVESIMO_H
@@ -30,6 +49,7 @@ enum {
   KLARVESIMO_FRAME_LENGTH,  /* the length of the whole message, as stated */
   KLARVESIMO_FRAME_NUMBERS  /* how many numbers there are: a shorter out gets 7 */
 };
+/* 0, 1 to 4, or 7. */
 uint32_t klarvesimo_frame(const uint8_t *bytes, size_t count, uint64_t *out, size_t room);
 
 /* What does the message at the front of `bytes` say? Requests, responses and events alike. `consumed` gets the stated length on 0
@@ -47,7 +67,8 @@ enum {
   KLARVESIMO_FIELDS,       /* how many fields there are, 0 to 32 */
   KLARVESIMO_BODY,         /* the place of the body, and its length */
   KLARVESIMO_BODY_LENGTH,
-  KLARVESIMO_KNOWN,        /* which known names came: the sum of 1 << the number of each */
+  KLARVESIMO_KNOWN,        /* which names came: the sum of 1 << the number of each known one, and of 1 << 7
+                            * where a field came with a name that is not known */
   KLARVESIMO_HEAD = 16     /* the fields' numbers begin here; those between are 0 */
 };
 
@@ -64,9 +85,48 @@ enum {
 
 /* Field f, from 0, has four numbers, at out[KLARVESIMO_HEAD + 4 * f] and after: the place and length of its name as written, and the
  * place and length of its value without the blanks at both ends. An out shorter than KLARVESIMO_HEAD + 4 * fields gets 7; one of
- * KLARVESIMO_MOST never does. Numbers of out past these stay as they were. */
+ * KLARVESIMO_MOST never does. Numbers of out past these stay as they were. 0, 1 to 5, or 7. */
 #define KLARVESIMO_MOST (KLARVESIMO_HEAD + 4 * 32)
 uint32_t klarvesimo_read(const uint8_t *bytes, size_t count, uint64_t *out, size_t room, uint64_t *consumed);
+
+/* A channel is these 64 numbers, which the caller keeps and hands in again. Any numbers at all may come in: a channel is sound if its name is
+ * well formed (1 to 32 ASCII letters or digits, then `@speechsynth`), it is idle exactly when nothing is outstanding, at most 16 are, and their ids
+ * rise in queue order with none above the last seen (none seen: idle). One that is not, or in which a number is outside the range
+ * given here, gets 21 from every call. Numbers of the queue past the count, and of the name past its size, are not looked at; a call
+ * that returns 0 writes all 64 anew, and those as 0. */
+enum {
+  KLARVESIMO_CHANNEL_STATE,      /* 0 idle, 1 speaking, 2 paused */
+  KLARVESIMO_CHANNEL_LAST,       /* 0 where no request was seen; else the last id seen, and 1 more: at most 4,294,967,296 */
+  KLARVESIMO_CHANNEL_COUNT,      /* how many SPEAKs are outstanding, 0 to 16 */
+  KLARVESIMO_CHANNEL_SIZE,       /* the length of the name, at most 44 */
+  KLARVESIMO_CHANNEL_QUEUE,      /* 16 numbers: each outstanding SPEAK, the active one first, as its id times 2, and 1 more where barge-in kills it */
+  KLARVESIMO_CHANNEL_NAME = 20,  /* 44 numbers: the name, a byte in each */
+  KLARVESIMO_CHANNEL = 64        /* how many numbers there are */
+};
+enum { KLARVESIMO_MOST_HELD = 16, KLARVESIMO_LONGEST_ANSWER = 305 };
+
+/* Opens a channel: idle, with nothing outstanding and no request seen. 0; or 10, and then the name in the channel is empty, so it is not
+ * sound. All 64 numbers are written in either case. */
+uint32_t klarvesimo_open(uint64_t *channel, const uint8_t *name, size_t length);
+
+/* Handles the client's message at the front of `bytes`, and nothing past it: judges the request, does what it asks, and writes the exact
+ * response to the front of out. A request that fails is handled too: its status is in the response, and of the channel at most the last id has
+ * changed. 0, 1 to 6, 7 or 21; KLARVESIMO_LONGEST_ANSWER bytes of room never meet 7. `counts` is set always: */
+enum {
+  KLARVESIMO_CONSUMED, /* how many bytes the message had: the stated length on 0, 5 and 6, else 0 */
+  KLARVESIMO_WRITTEN   /* how many bytes of out are the response: 0 where the call is refused; those past them stay as they were */
+};
+uint32_t klarvesimo_handle(uint64_t *channel, const uint8_t *bytes, size_t count, uint8_t *out, size_t room, uint64_t *counts);
+
+/* The engine's report that the active prompt has ended: writes the SPEAK-COMPLETE event for it to the front of out, and the next prompt, if
+ * there is one, is speaking. The causes: 0 normal, 1 barge-in, 2 parse-failure, 3 uri-failure, 4 error, 5 language-unsupported,
+ * 6 lexicon-load-failure, 7 cancelled. 0, 7, 8, 9 or 21; KLARVESIMO_LONGEST_ANSWER bytes of room never meet 7. `written` is set always, to 0
+ * where the call is refused; bytes of out past it stay as they were. */
+uint32_t klarvesimo_report(uint64_t *channel, uint32_t cause, uint8_t *out, size_t room, uint64_t *written);
+
+/* The ids of the outstanding SPEAKs, in queue order, to the front of ids, and how many they are to `count`; the ids past them stay as they
+ * were. 0; 7 where there are more than `room`; or 21. Where it is refused, `count` is set to 0. KLARVESIMO_MOST_HELD of room never meet 7. */
+uint32_t klarvesimo_held(const uint64_t *channel, uint64_t *ids, size_t room, uint64_t *count);
 
 #ifdef __cplusplus
 }

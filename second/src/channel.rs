@@ -11,28 +11,38 @@ use crate::writing::{Event, Outgoing};
 
 /// "Outstanding SPEAKs: at most 16, the active one counted."
 pub const MOST_OUTSTANDING: usize = 16;
-const RESOURCE: &[u8] = b"@speechsynth";
+pub const RESOURCE: &[u8] = b"@speechsynth";
 /// "1 to 32 ASCII letters or digits, then `@speechsynth`."
 const LONGEST_FIRST_PART: usize = 32;
 pub const LONGEST_NAME: usize = LONGEST_FIRST_PART + RESOURCE.len();
 /// "Engine cause above 7" is refused.
 const LAST_CAUSE: u32 = 7;
 
-/// A state as a number, since a channel handed in may hold any.
 #[derive(Clone, Copy, Debug, PartialEq, Eq)]
-pub struct State(pub u8);
+pub enum State {
+    Idle,
+    Speaking,
+    Paused,
+}
 
 impl State {
-    pub const IDLE: State = State(0);
-    pub const SPEAKING: State = State(1);
-    pub const PAUSED: State = State(2);
+    pub const ALL: [State; 3] = [State::Idle, State::Speaking, State::Paused];
 
-    pub fn word(self) -> Option<&'static str> {
+    pub fn number(self) -> u64 {
+        self as u64
+    }
+
+    pub fn of_number(number: u64) -> Option<State> {
+        State::ALL
+            .into_iter()
+            .find(|state| state.number() == number)
+    }
+
+    pub fn word(self) -> &'static str {
         match self {
-            State::IDLE => Some("idle"),
-            State::SPEAKING => Some("speaking"),
-            State::PAUSED => Some("paused"),
-            _ => None,
+            State::Idle => "idle",
+            State::Speaking => "speaking",
+            State::Paused => "paused",
         }
     }
 }
@@ -83,9 +93,8 @@ pub struct Speak {
 /// The outstanding SPEAKs in order, the active one first.
 #[derive(Clone, Copy, Debug, PartialEq, Eq)]
 pub struct Queue {
-    pub stored: [Speak; MOST_OUTSTANDING],
-    /// Above 16 only in a channel that is not sound.
-    pub count: u32,
+    stored: [Speak; MOST_OUTSTANDING],
+    count: usize,
 }
 
 impl Queue {
@@ -98,7 +107,13 @@ impl Queue {
     };
 
     pub fn outstanding(&self) -> &[Speak] {
-        &self.stored[..MOST_OUTSTANDING.min(self.count as usize)]
+        &self.stored[..self.count]
+    }
+
+    /// At the end, where less than 16 are outstanding.
+    pub fn add(&mut self, speak: Speak) {
+        self.stored[self.count] = speak;
+        self.count += 1;
     }
 }
 
@@ -120,7 +135,7 @@ pub struct Outcome {
 }
 
 impl Outcome {
-    fn refused(refusal: Refusal, consumed: usize) -> Outcome {
+    pub fn refused(refusal: Refusal, consumed: usize) -> Outcome {
         Outcome {
             number: refusal.number(),
             consumed,
@@ -141,7 +156,7 @@ impl Channel {
     /// "A refused opening gives such a channel with an empty name, so not sound."
     pub const UNOPENED: Channel = Channel {
         name: Name::EMPTY,
-        state: State::IDLE,
+        state: State::Idle,
         last: None,
         queue: Queue::EMPTY,
     };
@@ -166,9 +181,7 @@ impl Channel {
     /// with none above the last seen (none seen: idle)."
     pub fn is_sound(&self) -> bool {
         is_well_formed(self.name.bytes())
-            && self.state.word().is_some()
-            && (self.state == State::IDLE) == (self.queue.count == 0)
-            && self.queue.count as usize <= MOST_OUTSTANDING
+            && (self.state == State::Idle) == self.queue.outstanding().is_empty()
             && self.ids_rise()
             && self.none_above_the_last()
     }
@@ -180,7 +193,7 @@ impl Channel {
 
     fn none_above_the_last(&self) -> bool {
         match self.last {
-            None => self.state == State::IDLE,
+            None => self.state == State::Idle,
             Some(last) => self
                 .queue
                 .outstanding()
@@ -226,7 +239,7 @@ impl Channel {
         if cause > LAST_CAUSE {
             return Outcome::refused(Refusal::NoSuchCause, 0);
         }
-        if self.state != State::SPEAKING {
+        if self.state != State::Speaking {
             return Outcome::refused(Refusal::NothingSpeaking, 0);
         }
         let mut next = *self;

@@ -40,7 +40,7 @@ impl Kind {
     }
 }
 
-/// Writes a script with `count` commands that write output.
+/// Writes a script with `count` calls.
 pub fn script(seed: u64, count: u64, kind: Kind, out: &mut dyn Write) -> io::Result<()> {
     let mut random = Random::new(seed);
     let mut batch = Batch::default();

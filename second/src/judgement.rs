@@ -181,7 +181,7 @@ fn active_request_id_list<'a>(
 fn is_valid(method: Method, state: State) -> bool {
     match method {
         Method::Speak | Method::Stop | Method::BargeInOccurred => true,
-        Method::Pause | Method::Resume | Method::Control => state != State::IDLE,
+        Method::Pause | Method::Resume | Method::Control => state != State::Idle,
     }
 }
 

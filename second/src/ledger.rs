@@ -110,8 +110,7 @@ impl Ledger {
 
     /// The fourth property: what is accepted and not closed, in order of
     /// acceptance, is what the channel holds, in queue order.
-    pub fn balance(&self, held: impl Iterator<Item = u32>) -> Result<(), Violation> {
-        let held: Vec<u32> = held.collect();
+    pub fn balance(&self, held: Vec<u32>) -> Result<(), Violation> {
         if self.open == held {
             return Ok(());
         }

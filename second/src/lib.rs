@@ -9,6 +9,7 @@ pub mod fields;
 pub mod framing;
 pub mod gen;
 pub mod judgement;
+pub mod kept;
 pub mod ledger;
 pub mod message;
 pub mod octets;
@@ -22,5 +23,6 @@ pub mod writing;
 
 pub use channel::{Channel, Outcome};
 pub use framing::frame;
+pub use kept::Kept;
 pub use message::read;
 pub use refusal::Refusal;

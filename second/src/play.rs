@@ -2,9 +2,10 @@
 
 use std::io::{BufRead, Write};
 
-use crate::channel::{Channel, Outcome};
+use crate::channel::Outcome;
 use crate::fields::Fields;
 use crate::framing::frame;
+use crate::kept::Kept;
 use crate::ledger::{entry_of_message, entry_of_report, Entry, Ledger, Violation};
 use crate::message::{read, Message};
 use crate::refusal::Refusal;
@@ -14,9 +15,9 @@ use crate::writing::{cause_word, Outgoing};
 
 /// The current channel, the ledger since its opening, and the bytes to lend.
 pub struct Board {
-    pub channel: Channel,
+    pub channel: Kept,
     ledger: Ledger,
-    /// False from a `channel` line to the next `open`: nothing was accepted then.
+    /// False from a line that sets the channel to the next `open`: nothing was accepted then.
     checked: bool,
     output: Vec<u8>,
 }
@@ -31,7 +32,7 @@ pub struct Call<'a> {
 impl Board {
     pub fn new() -> Board {
         Board {
-            channel: Channel::UNOPENED,
+            channel: Kept::open(b"").0,
             ledger: Ledger::default(),
             checked: true,
             output: vec![0; MOST_ROOM as usize],
@@ -39,15 +40,20 @@ impl Board {
     }
 
     pub fn open(&mut self, name: &[u8]) -> u32 {
-        let (channel, number) = Channel::open(name);
+        let (channel, number) = Kept::open(name);
         self.channel = channel;
         self.ledger = Ledger::default();
         self.checked = true;
         number
     }
 
-    pub fn set(&mut self, channel: Channel) {
+    pub fn set(&mut self, channel: Kept) {
         self.channel = channel;
+        self.checked = false;
+    }
+
+    pub fn set_number(&mut self, place: usize, value: u64) {
+        self.channel.0[place] = value;
         self.checked = false;
     }
 
@@ -82,7 +88,8 @@ impl Board {
         let entry = match self.checked {
             true => entry.and_then(|entry| {
                 self.ledger.enter(&entry)?;
-                self.ledger.balance(self.channel.held())?;
+                self.ledger
+                    .balance(self.channel.held().unwrap_or_default())?;
                 Ok(entry)
             }),
             false => Ok(entry.unwrap_or(Entry::Nothing)),
@@ -121,20 +128,14 @@ fn perform(board: &mut Board, command: Command, text: &mut Vec<u8>) -> Result<()
         Command::Open(name) => put(text, &format!("open {}\n", board.open(&name))),
         Command::Message { room, input } => {
             let call = board.message(room, &input);
-            let Outcome {
-                number, consumed, ..
-            } = call.outcome;
+            let (number, consumed) = (call.outcome.number, call.outcome.consumed);
             put(text, &format!("message {number} {consumed} "));
-            put_hex(text, call.written);
-            text.push(b'\n');
-            kept = call.entry.map(|_| ());
+            kept = put_call(text, call);
         }
         Command::Report { cause, room } => {
             let call = board.report(cause, room);
             put(text, &format!("report {} ", call.outcome.number));
-            put_hex(text, call.written);
-            text.push(b'\n');
-            kept = call.entry.map(|_| ());
+            kept = put_call(text, call);
         }
         Command::Respond { answer, name, room } => {
             let message = Outgoing::Answer(*answer);
@@ -145,6 +146,8 @@ fn perform(board: &mut Board, command: Command, text: &mut Vec<u8>) -> Result<()
             put_written(text, "complete", board.write(&message, &name, room));
         }
         Command::Channel(channel) => board.set(*channel),
+        Command::Number { place, value } => board.set_number(place, value),
+        Command::Numbers => put(text, &format!("numbers {}\n", board.channel.words())),
         Command::Show => {
             put_channel(text, &board.channel);
             text.push(b'\n');
@@ -155,6 +158,13 @@ fn perform(board: &mut Board, command: Command, text: &mut Vec<u8>) -> Result<()
 
 fn put(text: &mut Vec<u8>, words: &str) {
     text.extend_from_slice(words.as_bytes());
+}
+
+/// The bytes that a call wrote; the ledger's word about it.
+fn put_call(text: &mut Vec<u8>, call: Call) -> Result<(), Violation> {
+    put_hex(text, call.written);
+    text.push(b'\n');
+    call.entry.map(|_| ())
 }
 
 fn put_written(text: &mut Vec<u8>, command: &str, written: Result<&[u8], Refusal>) {

@@ -2,7 +2,8 @@
 
 use std::io::{self, BufRead};
 
-use crate::channel::{Channel, Name, Queue, Speak, State, LONGEST_NAME, MOST_OUTSTANDING};
+use crate::channel::{State, MOST_OUTSTANDING};
+use crate::kept::{self, entry, Kept, NUMBERS};
 use crate::ledger::Violation;
 use crate::start_line::RequestState;
 use crate::states::Ids;
@@ -34,7 +35,12 @@ pub enum Command {
         name: Vec<u8>,
         room: usize,
     },
-    Channel(Box<Channel>),
+    Channel(Box<Kept>),
+    Number {
+        place: usize,
+        value: u64,
+    },
+    Numbers,
     Show,
 }
 
@@ -85,12 +91,12 @@ pub fn command(line: &[u8]) -> Result<Option<Command>, String> {
         [b"read", bytes] => Command::Read(hex(bytes)?),
         [b"open", bytes] => Command::Open(hex(bytes)?),
         [b"message", room, bytes] => Command::Message {
-            room: number("room", room, MOST_ROOM)? as usize,
+            room: room_of(room)?,
             input: hex(bytes)?,
         },
         [b"report", cause, room] => Command::Report {
-            cause: number("cause", cause, u32::MAX)?,
-            room: number("room", room, MOST_ROOM)? as usize,
+            cause: number32("cause", cause)?,
+            room: room_of(room)?,
         },
         [b"respond", state, status, id, name, ids, room] => {
             respond(state, status, id, name, ids, room)?
@@ -100,13 +106,18 @@ pub fn command(line: &[u8]) -> Result<Option<Command>, String> {
         [b"channel", name, state, last, queue, count] => {
             channel(name, state, last, queue, Some(count))?
         }
+        [b"number", place, value] => Command::Number {
+            place: number("place", place, NUMBERS as u64 - 1)? as usize,
+            value: number("value", value, u64::MAX)?,
+        },
+        [b"numbers"] => Command::Numbers,
         [b"show"] => Command::Show,
         _ => return Err(no_command(&words)),
     };
     Ok(Some(command))
 }
 
-const COMMANDS: [&[u8]; 9] = [
+const COMMANDS: [&[u8]; 11] = [
     b"frame",
     b"read",
     b"open",
@@ -115,6 +126,8 @@ const COMMANDS: [&[u8]; 9] = [
     b"respond",
     b"complete",
     b"channel",
+    b"number",
+    b"numbers",
     b"show",
 ];
 
@@ -177,22 +190,29 @@ pub fn put_hex(text: &mut Vec<u8>, bytes: &[u8]) {
 }
 
 /// Decimal without sign, any number of leading zeros.
-fn number(what: &str, word: &[u8], most: u32) -> Result<u32, String> {
+fn number(what: &str, word: &[u8], most: u64) -> Result<u64, String> {
     let shown = || String::from_utf8_lossy(word).into_owned();
     if word.is_empty() || !word.iter().all(u8::is_ascii_digit) {
         return Err(format!("{what} `{}` is no number", shown()));
     }
-    let value = word.iter().fold(0u64, |value, byte| {
-        value
-            .saturating_mul(10)
-            .saturating_add((byte - b'0').into())
+    let value = word.iter().try_fold(0u64, |value, byte| {
+        value.checked_mul(10)?.checked_add((byte - b'0').into())
     });
-    match u32::try_from(value) {
-        Ok(value) if value <= most => Ok(value),
+    match value {
+        Some(value) if value <= most => Ok(value),
         _ => Err(format!("{what} `{}` is above {most}", shown())),
     }
 }
 
+fn number32(what: &str, word: &[u8]) -> Result<u32, String> {
+    number(what, word, u32::MAX.into()).map(|value| value as u32)
+}
+
+fn room_of(word: &[u8]) -> Result<usize, String> {
+    number("room", word, MOST_ROOM.into()).map(|room| room as usize)
+}
+
+/// The size is that of the name given; of its bytes as many as fit are kept.
 fn channel(
     name: &[u8],
     state: &[u8],
@@ -200,31 +220,31 @@ fn channel(
     queue: &[u8],
     count: Option<&[u8]>,
 ) -> Result<Command, String> {
-    let name = Name::of(&hex(name)?)
-        .ok_or_else(|| format!("a channel name of more than {LONGEST_NAME} bytes"))?;
-    let state = state_of(state)?;
-    let last = match last {
-        b"-" => None,
-        word => Some(number("last id", word, u32::MAX)?),
+    let name = hex(name)?;
+    let queue = queue_of(queue)?;
+    let mut numbers = [0; NUMBERS];
+    numbers[kept::STATE] = state_of(state)?;
+    numbers[kept::LAST] = match last {
+        b"-" => 0,
+        word => number("last id", word, u64::MAX - 1)? + 1,
     };
-    let mut queue = queue_of(queue)?;
-    if let Some(word) = count {
-        queue.count = number("count", word, u32::MAX)?;
+    numbers[kept::COUNT] = match count {
+        None => queue.len() as u64,
+        Some(word) => number("count", word, u64::MAX)?,
+    };
+    numbers[kept::SIZE] = name.len() as u64;
+    numbers[kept::QUEUE..][..queue.len()].copy_from_slice(&queue);
+    for (number, byte) in numbers[kept::NAME..].iter_mut().zip(name) {
+        *number = byte.into();
     }
-    Ok(Command::Channel(Box::new(Channel {
-        name,
-        state,
-        last,
-        queue,
-    })))
+    Ok(Command::Channel(Box::new(Kept(numbers))))
 }
 
-fn state_of(word: &[u8]) -> Result<State, String> {
-    match word {
-        b"idle" => Ok(State::IDLE),
-        b"speaking" => Ok(State::SPEAKING),
-        b"paused" => Ok(State::PAUSED),
-        word => Ok(State(number("state", word, u8::MAX.into())? as u8)),
+fn state_of(word: &[u8]) -> Result<u64, String> {
+    let mut states = State::ALL.into_iter();
+    match states.find(|state| state.word().as_bytes() == word) {
+        Some(state) => Ok(state.number()),
+        None => number("state", word, u64::MAX),
     }
 }
 
@@ -237,7 +257,7 @@ fn respond(
     room: &[u8],
 ) -> Result<Command, String> {
     let answer = Answer {
-        id: number("id", id, u32::MAX)?,
+        id: number32("id", id)?,
         status: number("status", status, 999)? as u16,
         state: request_state(state)?,
         list: ids_of(ids)?,
@@ -245,19 +265,19 @@ fn respond(
     Ok(Command::Respond {
         answer: Box::new(answer),
         name: hex(name)?,
-        room: number("room", room, MOST_ROOM)? as usize,
+        room: room_of(room)?,
     })
 }
 
 fn complete(cause: &[u8], id: &[u8], name: &[u8], room: &[u8]) -> Result<Command, String> {
     let event = Event {
-        id: number("id", id, u32::MAX)?,
-        cause: number("cause", cause, u32::MAX)?,
+        id: number32("id", id)?,
+        cause: number32("cause", cause)?,
     };
     Ok(Command::Complete {
         event,
         name: hex(name)?,
-        room: number("room", room, MOST_ROOM)? as usize,
+        room: room_of(room)?,
     })
 }
 
@@ -276,14 +296,14 @@ fn ids_of(word: &[u8]) -> Result<Ids, String> {
         if ids.all().len() == MOST_OUTSTANDING {
             return Err(format!("more than {MOST_OUTSTANDING} ids"));
         }
-        ids.add(number("id", part, u32::MAX)?);
+        ids.add(number32("id", part)?);
     }
     Ok(ids)
 }
 
-/// As `7+,8-`, `+` for killable, or `-` for none.
-fn queue_of(word: &[u8]) -> Result<Queue, String> {
-    let mut queue = Queue::EMPTY;
+/// As `7+,8-`, `+` for killable, or `-` for none: at most 16 numbers.
+fn queue_of(word: &[u8]) -> Result<Vec<u64>, String> {
+    let mut queue = Vec::new();
     if word == b"-" {
         return Ok(queue);
     }
@@ -293,41 +313,47 @@ fn queue_of(word: &[u8]) -> Result<Queue, String> {
             [id @ .., b'-'] => (id, false),
             _ => return Err("a queue entry without `+` or `-`".to_string()),
         };
-        let id = number("id", id, u32::MAX)?;
-        let place = queue.stored.get_mut(queue.count as usize);
-        let place = place.ok_or_else(|| format!("more than {MOST_OUTSTANDING} queue entries"))?;
-        *place = Speak { id, killable };
-        queue.count += 1;
+        if queue.len() == MOST_OUTSTANDING {
+            return Err(format!("more than {MOST_OUTSTANDING} queue entries"));
+        }
+        queue.push(entry(number("id", id, u64::MAX / 2)?, killable));
     }
     Ok(queue)
 }
 
-/// `channel HEX STATE LAST QUEUE`, and COUNT where it is above 16.
-pub fn put_channel(text: &mut Vec<u8>, channel: &Channel) {
+/// `channel HEX STATE LAST QUEUE`, and COUNT where it is above 16. The name is
+/// shown as bytes, as many as the size says and there are.
+pub fn put_channel(text: &mut Vec<u8>, kept: &Kept) {
+    let queue = kept.queue_numbers();
     text.extend_from_slice(b"channel ");
-    put_hex(text, channel.name.bytes());
-    let state = match channel.state.word() {
-        Some(word) => word.to_string(),
-        None => channel.state.0.to_string(),
-    };
-    let last = match channel.last {
-        Some(last) => last.to_string(),
-        None => "-".to_string(),
-    };
-    text.extend_from_slice(format!(" {state} {last} ").as_bytes());
-    put_queue(text, &channel.queue);
-    if channel.queue.count as usize > MOST_OUTSTANDING {
-        text.extend_from_slice(format!(" {}", channel.queue.count).as_bytes());
+    put_words(text, kept, &kept.name_bytes(), queue);
+    if kept.0[kept::COUNT] > queue.len() as u64 {
+        text.extend_from_slice(format!(" {}", kept.0[kept::COUNT]).as_bytes());
     }
 }
 
-fn put_queue(text: &mut Vec<u8>, queue: &Queue) {
-    if queue.outstanding().is_empty() {
+/// `HEX STATE LAST QUEUE`, name and queue as given.
+pub fn put_words(text: &mut Vec<u8>, kept: &Kept, name: &[u8], queue: &[u64]) {
+    put_hex(text, name);
+    let state = match State::of_number(kept.0[kept::STATE]) {
+        Some(state) => state.word().to_string(),
+        None => kept.0[kept::STATE].to_string(),
+    };
+    let last = match kept.0[kept::LAST] {
+        0 => "-".to_string(),
+        number => (number - 1).to_string(),
+    };
+    text.extend_from_slice(format!(" {state} {last} ").as_bytes());
+    put_queue(text, queue);
+}
+
+fn put_queue(text: &mut Vec<u8>, queue: &[u64]) {
+    if queue.is_empty() {
         text.push(b'-');
     }
-    for (place, speak) in queue.outstanding().iter().enumerate() {
+    for (place, number) in queue.iter().enumerate() {
         let comma = if place == 0 { "" } else { "," };
-        let sign = if speak.killable { '+' } else { '-' };
-        text.extend_from_slice(format!("{comma}{}{sign}", speak.id).as_bytes());
+        let sign = if number & 1 == 1 { '+' } else { '-' };
+        text.extend_from_slice(format!("{comma}{}{sign}", number >> 1).as_bytes());
     }
 }

@@ -39,11 +39,9 @@ impl Channel {
     /// SPEAK with less than 16 outstanding: "idle, becomes active and speaking,
     /// IN-PROGRESS. Otherwise joins the end, PENDING."
     pub fn speak(&mut self, id: u32, killable: bool) -> RequestState {
-        let end = self.queue.count as usize;
-        self.queue.stored[end] = Speak { id, killable };
-        self.queue.count += 1;
-        if self.state == State::IDLE {
-            self.state = State::SPEAKING;
+        self.queue.add(Speak { id, killable });
+        if self.state == State::Idle {
+            self.state = State::Speaking;
             RequestState::InProgress
         } else {
             RequestState::Pending
@@ -71,17 +69,17 @@ impl Channel {
 
     /// PAUSE when not idle: "paused, listing the active id".
     pub fn pause(&mut self) -> Ids {
-        self.state = State::PAUSED;
+        self.state = State::Paused;
         self.active()
     }
 
     /// RESUME when not idle: "From paused: speaking, listing the active id.
     /// From speaking: no change, no list (house)."
     pub fn resume(&mut self) -> Ids {
-        if self.state == State::SPEAKING {
+        if self.state == State::Speaking {
             return Ids::NONE;
         }
-        self.state = State::SPEAKING;
+        self.state = State::Speaking;
         self.active()
     }
 
@@ -113,13 +111,12 @@ impl Channel {
             if places & (1 << place) != 0 {
                 ended.add(speak.id);
             } else {
-                left.stored[left.count as usize] = *speak;
-                left.count += 1;
+                left.add(*speak);
             }
         }
         self.queue = left;
-        if left.count == 0 {
-            self.state = State::IDLE;
+        if left.outstanding().is_empty() {
+            self.state = State::Idle;
         }
         ended
     }

@@ -76,15 +76,26 @@ impl Teller {
             }
             Command::Channel(channel) => {
                 self.board.set(*channel);
-                let words = channel_words(&self.board);
-                text.push_str(&format!("== set by the script: {words}\n\n"));
-                self.begin(format!("set by the script: {words}"));
+                self.set_by_the_script(text);
+            }
+            Command::Number { place, value } => {
+                self.board.set_number(place, value);
+                self.set_by_the_script(text);
+            }
+            Command::Numbers => {
+                text.push_str(&format!("== numbers {}\n\n", self.board.channel.words()));
             }
             Command::Show => {
                 text.push_str(&format!("== now: {}\n\n", channel_words(&self.board)));
             }
         }
         Ok(())
+    }
+
+    fn set_by_the_script(&mut self, text: &mut String) {
+        let title = format!("set by the script: {}", channel_words(&self.board));
+        text.push_str(&format!("== {title}\n\n"));
+        self.begin(title);
     }
 
     fn written(&mut self, text: &mut String, message: &Outgoing, name: &[u8], room: usize) {
@@ -269,9 +280,9 @@ fn channel_words(board: &Board) -> String {
     put_channel(&mut text, &board.channel);
     let hex = String::from_utf8_lossy(&text).into_owned();
     let parts: Vec<&str> = hex.split(' ').collect();
-    let name = readable(board.channel.name.bytes());
     format!(
-        "channel `{name}` {}, last id {}, queue {}",
+        "channel `{}` {}, last id {}, queue {}",
+        readable(&board.channel.name_bytes()),
         parts[2],
         parts[3],
         parts[4..].join(" count ")

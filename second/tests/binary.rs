@@ -93,6 +93,15 @@ fn the_lines_of_each_command() {
         ("report 0 305".to_string(), "report 21 -\n".to_string()),
         (format!("channel {name} 2 9 3+,4-,5+ 2"), String::new()),
         ("show".to_string(), format!("channel {name} paused 9 3+,4-\n")),
+        ("channel 6162 2 9 3+,4-,5+ 2".to_string(), String::new()),
+        ("number 4 18".to_string(), String::new()),
+        ("number 21 353".to_string(), String::new()),
+        ("numbers".to_string(), {
+            let rest = " 0".repeat(13);
+            let name = " 0".repeat(42);
+            format!("numbers 2 10 2 2 18 8 11{rest} 97 353{name}\n")
+        }),
+        ("show".to_string(), "channel 6161 paused 9 9-,4-\n".to_string()),
     ];
     let script: String = rows.iter().map(|(line, _)| format!("{line}\n")).collect();
     let expected: String = rows.iter().map(|(_, lines)| lines.as_str()).collect();
@@ -147,26 +156,31 @@ const UNREADABLE: &[&str] = &[
     "channel - idle -",
     "channel - idle - - - -",
     "channel - busy - -",
-    "channel - 256 - -",
+    "channel - 18446744073709551616 - -",
     "channel - -1 - -",
-    "channel - idle 4294967296 -",
+    "channel - idle 18446744073709551615 -",
     "channel - idle x -",
     "channel - idle - 1",
     "channel - idle - +",
     "channel - idle - 1+,",
     "channel - idle - ,1+",
     "channel - idle - 1+ 2-",
-    "channel - idle - 4294967296+",
-    "channel - idle - - 4294967296",
+    "channel - idle - 9223372036854775808+",
+    "channel - idle - - 18446744073709551616",
+    "number 0",
+    "number 64 0",
+    "number 0 -",
+    "number 0 18446744073709551616",
+    "number 0 1 2",
+    "numbers 0",
 ];
 
 #[test]
 fn unreadable_lines() {
-    let long = format!("channel {} idle - -", "61".repeat(45));
     let many = format!("channel - idle - {}", vec!["1+"; 17].join(","));
     let huge = format!("frame {}", "00".repeat(1_000_001));
     let listed = format!("respond PENDING 200 7 61 {} 305", vec!["1"; 17].join(","));
-    let longer = [&long[..], &many, &huge, &listed];
+    let longer = [&many[..], &huge, &listed];
     for &line in UNREADABLE.iter().chain(&longer) {
         let script = format!("# first\nframe -\n\n{line}\nframe -\n");
         for act in ["play", "tell"] {
@@ -210,6 +224,9 @@ fn the_ends_of_the_ranges_are_readable() {
         "message 000000000000000000000000000007 -",
         "report 4294967295 1000000",
         "channel - 255 4294967295 4294967295+,0- 4294967295",
+        "channel - 18446744073709551615 18446744073709551614 9223372036854775807+ 18446744073709551615",
+        "number 63 18446744073709551615",
+        "number 0 000000000000000000000000000007",
         "   # a comment after blanks",
         "show   # a comment after blanks",
         "show# a comment",
@@ -219,8 +236,9 @@ fn the_ends_of_the_ranges_are_readable() {
     for line in lines {
         played(line);
     }
-    let name = "61".repeat(44);
-    played(&format!("channel {name} idle - -\nshow"));
+    // Of a longer name as many bytes as fit are kept.
+    let shown = played(&format!("channel {} idle - -\nshow", "61".repeat(45)));
+    assert_eq!(shown, format!("channel {} idle - -\n", "61".repeat(44)));
     let queue = vec!["1+"; 16].join(",");
     played(&format!("channel - idle - {queue}\nshow"));
 }
@@ -246,10 +264,11 @@ fn anything_else_is_usage() {
     }
 }
 
-/// How many of the script's commands write output.
-fn writing_commands(script: &str) -> usize {
-    let lines = script.lines();
-    lines.filter(|line| !line.starts_with("channel ")).count()
+/// How many of the script's commands are calls.
+fn calls(script: &str) -> usize {
+    const NO_CALLS: [&str; 4] = ["channel", "number", "numbers", "show"];
+    let words = script.lines().filter_map(|line| line.split(' ').next());
+    words.filter(|word| !NO_CALLS.contains(word)).count()
 }
 
 #[test]
@@ -260,7 +279,7 @@ fn what_is_made_is_the_same_each_time_and_plays() {
             let made = second(&words, b"");
             assert_eq!(made.status.code(), Some(0));
             assert_eq!(made.stdout, second(&words, b"").stdout, "{kind} {seed}");
-            assert_eq!(writing_commands(&text(&made.stdout)), 3000);
+            assert_eq!(calls(&text(&made.stdout)), 3000);
             for act in ["play", "tell"] {
                 let output = second(&[act], &made.stdout);
                 let error = text(&output.stderr);

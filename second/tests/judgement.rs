@@ -3,16 +3,22 @@
 mod common;
 
 use common::*;
-use second::Channel;
+use second::kept::{self, Kept};
 
 /// A channel that speaks 1 and has seen 5.
-fn speaking() -> Channel {
+fn speaking() -> Kept {
     given("speaking 5 1+")
 }
 
-fn full() -> Channel {
+fn full() -> Kept {
     let queue: Vec<String> = (1..=16).map(|id| format!("{id}+")).collect();
     given(&format!("speaking 16 {}", queue.join(",")))
+}
+
+fn full_and_seen(id: u64) -> Kept {
+    let mut channel = full();
+    channel.0[kept::LAST] = id + 1;
+    channel
 }
 
 const HI: &str = "Content-Type:text/plain|Content-Length:2||Hi";
@@ -182,8 +188,7 @@ fn methods_that_an_idle_channel_lacks() {
 fn the_seventeenth_speak() {
     let mut channel = full();
     assert_eq!(answer(&mut channel, &speak(17, "")), "407 COMPLETE");
-    assert_eq!(channel.last, Some(17));
-    assert_eq!(channel.queue, full().queue);
+    assert_eq!(channel, full_and_seen(17));
     // The fifteenth and sixteenth pass.
     let mut channel = opened();
     for id in 1..=16 {
@@ -277,7 +282,6 @@ fn when_the_last_id_moves() {
     );
     assert_eq!(shown(&channel), "idle 6 -");
     let mut channel = full();
-    let before = channel.queue;
     handle(&mut channel, &request(&format!("SPEAK 20|{{C}}{HI}")));
-    assert_eq!((channel.last, channel.queue), (Some(20), before));
+    assert_eq!(channel, full_and_seen(20));
 }

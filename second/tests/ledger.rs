@@ -102,7 +102,7 @@ fn balance(entries: &[Entry], held: &[u32]) -> Result<(), Violation> {
     for entry in entries {
         ledger.enter(entry)?;
     }
-    ledger.balance(held.iter().copied())
+    ledger.balance(held.to_vec())
 }
 
 #[test]
@@ -190,7 +190,7 @@ fn the_lists_and_the_quick_checks_agree() {
             let entry = entry_of_report(outcome.number, &written).unwrap();
             ledger.enter(&entry).unwrap();
         }
-        ledger.balance(channel.held()).unwrap();
+        ledger.balance(channel.held().unwrap()).unwrap();
         let (accepted, closed) = (ledger.accepted(), ledger.closed());
         let open: Vec<u32> = accepted
             .iter()
@@ -210,13 +210,13 @@ fn the_board_finds_a_lost_prompt() {
     assert!(board.message(305, &speak(7, "")).entry.is_ok());
     assert!(board.message(305, &speak(8, "")).entry.is_ok());
     let kept = board.channel;
-    board.channel.queue.count = 1;
+    board.channel.0[second::kept::COUNT] = 1;
     let entry = board.message(305, &request("PAUSE 9|{C}|")).entry;
     let (open, held) = (vec![7, 8], vec![7]);
     assert_eq!(entry, Err(Violation::OutOfBalance { open, held }));
     // A channel that the script sets is not checked until the next opening.
     board.set(kept);
-    board.channel.queue.count = 1;
+    board.channel.0[second::kept::COUNT] = 1;
     assert!(board.message(305, &request("PAUSE 9|{C}|")).entry.is_ok());
     assert_eq!(board.open(NAME), 0);
     assert!(board.message(305, &speak(7, "")).entry.is_ok());

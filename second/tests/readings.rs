@@ -29,7 +29,8 @@ fn points_1_to_3_framing() {
 fn fresh(text: &str) -> String {
     let mut channel = opened();
     let answer = answer(&mut channel, &wire(text));
-    let last = channel.last.map_or("-".to_string(), |id| id.to_string());
+    let shown = shown(&channel);
+    let last = shown.split(' ').nth(1).expect("the word after the state");
     format!("{answer}; {last}")
 }
 

@@ -3,7 +3,7 @@
 mod common;
 
 use common::*;
-use second::{Channel, Refusal};
+use second::{Kept, Refusal};
 
 const NOT_SOUND: &str = "idle 1 1+";
 
@@ -139,12 +139,12 @@ fn opening_by_table() {
         ("a@b@speechsynth", 10),
     ];
     for (name, number) in rows {
-        let (channel, got) = Channel::open(name.as_bytes());
+        let (channel, got) = Kept::open(name.as_bytes());
         assert_eq!(got, number, "{name}");
         assert_eq!(channel.is_sound(), number == 0, "{name}");
         assert_eq!(shown(&channel), "idle - -", "{name}");
         let kept = if number == 0 { name } else { "" };
-        assert_eq!(channel.name.bytes(), kept.as_bytes());
+        assert_eq!(channel.name_bytes(), kept.as_bytes());
     }
 }
 
@@ -166,6 +166,9 @@ fn soundness_by_table() {
         ("3 1 1+", false),
         ("255 1 1+", false),
         ("7 1 -", false),
+        ("256 1 -", false),
+        ("4294967297 1 1+", false),
+        ("18446744073709551615 1 -", false),
         // Idle exactly when nothing is outstanding.
         ("idle 1 1+", false),
         ("speaking 1 -", false),
@@ -174,6 +177,8 @@ fn soundness_by_table() {
         (&over, false),
         ("speaking 1 1+ 200", false),
         ("speaking 1 1+ 4294967295", false),
+        ("speaking 1 1+ 4294967297", false),
+        ("speaking 1 1+ 18446744073709551615", false),
         // Their ids rise.
         ("speaking 9 2+,2+", false),
         ("speaking 9 3+,2+", false),
@@ -182,6 +187,14 @@ fn soundness_by_table() {
         ("speaking 1 2+", false),
         ("speaking 2 1+,3+", false),
         ("speaking 3 1+,3+", true),
+        // Ids and the last seen are request-ids.
+        ("speaking 4294967295 4294967295-", true),
+        ("idle 4294967296 -", false),
+        ("idle 18446744073709551614 -", false),
+        ("speaking 4294967297 1+", false),
+        ("speaking 4294967295 4294967296+", false),
+        ("speaking 1 4294967297+", false),
+        ("speaking 1 9223372036854775807+", false),
         // None seen: idle.
         ("speaking - 1+", false),
         ("speaking - 0-", false),

@@ -11,3 +11,4 @@ pub mod Listing
 pub mod Delivered
 pub mod Answers
 pub mod Theorems
+pub mod Causes

@@ -16,7 +16,8 @@ use Rattle.message.specs.Message as M
 use Rattle.message.specs.StartLines.{stateText}
 use Rattle.message.specs.declared.RequestState.{RequestState}
 use Rattle.message.specs.declared.RequestState.the-variants.{Complete}
-use Rattle.answer.specs.Written.{openingText, startText, fieldText, fieldsText, afterLength, written}
+use Rattle.answer.specs.Written.{startText, fieldText, fieldsText, afterLength, written}
+use Rattle.answer.specs.Steps.{openingText}
 use Rattle.answer.specs.Answers.{channelIdentifier, activeRequestIdList, completionCause, response, speakComplete}
 use Rattle.answer.proofs.Places.{field-size}
 use Rattle.answer.proofs.Frames.{written-length}

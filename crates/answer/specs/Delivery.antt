@@ -1,10 +1,11 @@
 -- Bytes delivered into a lent output, or refused where it is too short: document 01, refusal 7.
-use Prim.Native.Nat.{ℕ}
+use Prim.Native.Nat.{ℕ, zero, suc}
 use mathlib.Core.Bool.{true, false}
 use mathlib.Core.List.{List, _++_}
 use lib.Dec.{ltb}
 use lib.ListN.{length, drop}
 use Rattle.answer.specs.declared.Cause.{Cause}
+use Rattle.answer.specs.declared.Reported.{Reported}
 use Rattle.answer.specs.declared.Written.{Written}
 
 -- what the output holds afterwards: all of bs and then what stood there, or what it held where it is shorter than bs
@@ -25,3 +26,15 @@ causeNumber Cause.Error = 4
 causeNumber Cause.LanguageUnsupported = 5
 causeNumber Cause.LexiconLoadFailure = 6
 causeNumber Cause.Cancelled = 7
+
+-- the cause with a number, 0 to 7
+abbrev pub causeAt : ℕ → Reported
+causeAt zero = Reported.Cause Cause.Normal
+causeAt (suc zero) = Reported.Cause Cause.BargeIn
+causeAt (suc (suc zero)) = Reported.Cause Cause.ParseFailure
+causeAt (suc (suc (suc zero))) = Reported.Cause Cause.UriFailure
+causeAt (suc (suc (suc (suc zero)))) = Reported.Cause Cause.Error
+causeAt (suc (suc (suc (suc (suc zero))))) = Reported.Cause Cause.LanguageUnsupported
+causeAt (suc (suc (suc (suc (suc (suc zero)))))) = Reported.Cause Cause.LexiconLoadFailure
+causeAt (suc (suc (suc (suc (suc (suc (suc zero))))))) = Reported.Cause Cause.Cancelled
+causeAt (suc (suc (suc (suc (suc (suc (suc (suc n)))))))) = Reported.NoCause

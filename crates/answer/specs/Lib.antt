@@ -3,3 +3,4 @@ pub mod IdList
 pub mod Answers
 pub mod Writable
 pub mod Delivery
+pub mod Steps

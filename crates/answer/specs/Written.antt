@@ -26,10 +26,6 @@ fieldsText (f ∷ fs) = fieldText f ++ fieldsText fs
 unfoldable pub afterLength : Message → List ℕ
 afterLength m = bytes " " ++ startText (m .start) ++ crlf ++ fieldsText (m .fields) ++ crlf ++ m .body
 
--- what it begins with, up to the space behind the length
-unfoldable pub openingText : ℕ → List ℕ
-openingText size = bytes "MRCP/2.0 " ++ digits size ++ bytes " "
-
 -- start line with `MRCP/2.0`, fields, an empty line, body; the length is the smallest number that equals the size with its own digits
 unfoldable pub written : Message → List ℕ
 written m = bytes "MRCP/2.0 " ++ digits (selfLength (length (bytes "MRCP/2.0 ") + length (afterLength m))) ++ afterLength m

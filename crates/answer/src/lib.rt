@@ -5,13 +5,13 @@ ghost use mathlib.Core.List.{_++_};
 ghost use Prim.Native.Nat.{_+_, _^_, _≤_, _<_, min};
 ghost use lib.ListN.{length};
 ghost use Rattle.octets.specs.Octets.{bytes, crlf};
-ghost use Rattle.writers.specs.Decimal.{width};
+ghost use Rattle.writers.specs.Decimal.{digits, width, threeDigits};
 ghost use Rattle.writers.specs.SelfLength.{selfLength};
 ghost use Rattle.writers.specs.Buffer.{Wrote};
 ghost use Rattle.message.specs.Message.{response as responseLine, event as eventLine};
 ghost use Rattle.message.specs.StartLines.{stateText};
 ghost use Rattle.message.specs.declared.RequestState.{RequestState};
-ghost use Rattle.answer.specs.Written.{openingText, startText, fieldText, fieldsText, written};
+ghost use Rattle.answer.specs.Written.{startText, fieldText, fieldsText, written};
 ghost use Rattle.answer.specs.IdList.{behindCommas};
 ghost use Rattle.answer.specs.Answers.{
   channelIdentifier,
@@ -20,7 +20,8 @@ ghost use Rattle.answer.specs.Answers.{
   response,
   speakComplete,
 };
-ghost use Rattle.answer.specs.Delivery.{counted, delivered, causeNumber};
+ghost use Rattle.answer.specs.Delivery.{counted, delivered, causeNumber, causeAt};
+ghost use Rattle.answer.specs.Steps.{openingText};
 
 // A status code.
 pub struct Status {
@@ -44,6 +45,12 @@ pub enum Cause {
     LanguageUnsupported,
     LexiconLoadFailure,
     Cancelled,
+}
+
+// What an engine reports: one of the causes, or a number above them.
+pub enum Reported {
+    NoCause,
+    Cause(Cause),
 }
 
 // What a write returns: the count of bytes written, or that they are more than the lent output holds.
@@ -206,6 +213,47 @@ impl Status {
     }
 }
 
+// Writes `src` at `at`; returns the place behind it.
+fn put_bytes(out: &mut [u8], at: usize, src: &[u8]) -> usize
+    requires { ⌜ at + length (now src) ≤ length (now out) ⌝ }
+    ensures { λ r. ⌜ Wrote (now (out .entry)) at (now (src .entry)) (now (out .exit)) r ⌝ }
+{
+    let mut k = 0;
+    while k < src.len() {
+        out[at + k] = src[k];
+        k += 1;
+    }
+    at + k
+}
+
+// Writes the digits of n at `at`, the last one first; returns the place behind them.
+fn put_digits(out: &mut [u8], at: usize, n: u64) -> usize
+    requires { ⌜ at + width n ≤ length (now out) ⌝ }
+    ensures { λ r. ⌜ Wrote (now (out .entry)) at (digits n) (now (out .exit)) r ⌝ }
+{
+    let end = at + writers::width(n);
+    let mut k = end - 1;
+    let mut m = n;
+    while 10 <= m {
+        out[k] = (48 + m % 10) as u8;
+        m = m / 10;
+        k -= 1;
+    }
+    out[k] = (48 + m) as u8;
+    end
+}
+
+// Writes the last three digits of n at `at`; returns the place behind them.
+fn put_three(out: &mut [u8], at: usize, n: u32) -> usize
+    requires { ⌜ at + 3 ≤ length (now out) ⌝ }
+    ensures { λ r. ⌜ Wrote (now (out .entry)) at (threeDigits n) (now (out .exit)) r ⌝ }
+{
+    out[at] = (48 + n / 100 % 10) as u8;
+    out[at + 1] = (48 + n / 10 % 10) as u8;
+    out[at + 2] = (48 + n % 10) as u8;
+    at + 3
+}
+
 // How many bytes the word of a state has.
 fn state_width(state: message::RequestState) -> usize
     ensures { λ r. ⌜ (r ≡ length (stateText state)) × (r ≤ 11) ⌝ }
@@ -222,9 +270,9 @@ fn put_state(out: &mut [u8], at: usize, state: message::RequestState) -> usize
     ensures { λ r. ⌜ Wrote (now (out .entry)) at (stateText state) (now (out .exit)) r ⌝ }
 {
     match state {
-        message::RequestState::Pending => writers::put_bytes(out, at, b"PENDING"),
-        message::RequestState::InProgress => writers::put_bytes(out, at, b"IN-PROGRESS"),
-        message::RequestState::Complete => writers::put_bytes(out, at, b"COMPLETE"),
+        message::RequestState::Pending => put_bytes(out, at, b"PENDING"),
+        message::RequestState::InProgress => put_bytes(out, at, b"IN-PROGRESS"),
+        message::RequestState::Complete => put_bytes(out, at, b"COMPLETE"),
     }
 }
 
@@ -233,9 +281,9 @@ fn put_opening(out: &mut [u8], at: usize, size: usize) -> usize
     requires { ⌜ at + (10 + width size) ≤ length (now out) ⌝ }
     ensures { λ r. ⌜ Wrote (now (out .entry)) at (openingText size) (now (out .exit)) r ⌝ }
 {
-    let a = writers::put_bytes(out, at, b"MRCP/2.0 ");
-    let b = writers::put_digits(out, a, size as u64);
-    writers::put_bytes(out, b, b" ")
+    let a = put_bytes(out, at, b"MRCP/2.0 ");
+    let b = put_digits(out, a, size as u64);
+    put_bytes(out, b, b" ")
 }
 
 // The rest of a response's start line.
@@ -244,12 +292,12 @@ fn put_response_line(out: &mut [u8], at: usize, a: Answer) -> usize
     ensures { λ r. ⌜ Wrote (now (out .entry)) at (startText (responseLine (a .id) (a .status .code) (a .state)) ++ crlf) (now (out .exit)) r ⌝ }
 {
     let state = a.state;
-    let p = writers::put_digits(out, at, a.id as u64);
-    let q = writers::put_bytes(out, p, b" ");
-    let r = writers::put_three(out, q, a.status.code);
-    let s = writers::put_bytes(out, r, b" ");
+    let p = put_digits(out, at, a.id as u64);
+    let q = put_bytes(out, p, b" ");
+    let r = put_three(out, q, a.status.code);
+    let s = put_bytes(out, r, b" ");
     let t = put_state(out, s, state);
-    writers::put_bytes(out, t, b"\r\n")
+    put_bytes(out, t, b"\r\n")
 }
 
 // The rest of the event's start line.
@@ -257,18 +305,18 @@ fn put_event_line(out: &mut [u8], at: usize, id: u32) -> usize
     requires { ⌜ at + (26 + width id) ≤ length (now out) ⌝ }
     ensures { λ r. ⌜ Wrote (now (out .entry)) at (startText (eventLine (bytes "SPEAK-COMPLETE") id RequestState.Complete) ++ crlf) (now (out .exit)) r ⌝ }
 {
-    let p = writers::put_bytes(out, at, b"SPEAK-COMPLETE ");
-    let q = writers::put_digits(out, p, id as u64);
-    writers::put_bytes(out, q, b" COMPLETE\r\n")
+    let p = put_bytes(out, at, b"SPEAK-COMPLETE ");
+    let q = put_digits(out, p, id as u64);
+    put_bytes(out, q, b" COMPLETE\r\n")
 }
 
 fn put_channel_identifier(out: &mut [u8], at: usize, name: &[u8]) -> usize
     requires { ⌜ at + (21 + length (now name)) ≤ length (now out) ⌝ }
     ensures { λ r. ⌜ Wrote (now (out .entry)) at (fieldText (channelIdentifier (now (name .entry)))) (now (out .exit)) r ⌝ }
 {
-    let p = writers::put_bytes(out, at, b"Channel-Identifier:");
-    let q = writers::put_bytes(out, p, name);
-    writers::put_bytes(out, q, b"\r\n")
+    let p = put_bytes(out, at, b"Channel-Identifier:");
+    let q = put_bytes(out, p, name);
+    put_bytes(out, q, b"\r\n")
 }
 
 // Each id with a comma before it.
@@ -279,8 +327,8 @@ fn put_behind_commas(out: &mut [u8], at: usize, ids: &[u32]) -> usize
     let mut p = at;
     let mut j = 0;
     while j < ids.len() {
-        p = writers::put_bytes(out, p, b",");
-        p = writers::put_digits(out, p, ids[j] as u64);
+        p = put_bytes(out, p, b",");
+        p = put_digits(out, p, ids[j] as u64);
         j += 1;
     }
     p
@@ -294,10 +342,10 @@ fn put_id_list(out: &mut [u8], at: usize, ids: &[u32]) -> usize
     if ids.len() == 0 {
         return at;
     }
-    let p = writers::put_bytes(out, at, b"Active-Request-Id-List:");
-    let q = writers::put_digits(out, p, ids[0] as u64);
+    let p = put_bytes(out, at, b"Active-Request-Id-List:");
+    let q = put_digits(out, p, ids[0] as u64);
     let r = put_behind_commas(out, q, &ids[1..]);
-    writers::put_bytes(out, r, b"\r\n")
+    put_bytes(out, r, b"\r\n")
 }
 
 // How many bytes a cause's number and name have.
@@ -322,14 +370,14 @@ fn put_cause(out: &mut [u8], at: usize, cause: Cause) -> usize
     ensures { λ r. ⌜ Wrote (now (out .entry)) at (completionCause (causeNumber cause) .value) (now (out .exit)) r ⌝ }
 {
     match cause {
-        Cause::Normal => writers::put_bytes(out, at, b"000 normal"),
-        Cause::BargeIn => writers::put_bytes(out, at, b"001 barge-in"),
-        Cause::ParseFailure => writers::put_bytes(out, at, b"002 parse-failure"),
-        Cause::UriFailure => writers::put_bytes(out, at, b"003 uri-failure"),
-        Cause::Error => writers::put_bytes(out, at, b"004 error"),
-        Cause::LanguageUnsupported => writers::put_bytes(out, at, b"005 language-unsupported"),
-        Cause::LexiconLoadFailure => writers::put_bytes(out, at, b"006 lexicon-load-failure"),
-        Cause::Cancelled => writers::put_bytes(out, at, b"007 cancelled"),
+        Cause::Normal => put_bytes(out, at, b"000 normal"),
+        Cause::BargeIn => put_bytes(out, at, b"001 barge-in"),
+        Cause::ParseFailure => put_bytes(out, at, b"002 parse-failure"),
+        Cause::UriFailure => put_bytes(out, at, b"003 uri-failure"),
+        Cause::Error => put_bytes(out, at, b"004 error"),
+        Cause::LanguageUnsupported => put_bytes(out, at, b"005 language-unsupported"),
+        Cause::LexiconLoadFailure => put_bytes(out, at, b"006 lexicon-load-failure"),
+        Cause::Cancelled => put_bytes(out, at, b"007 cancelled"),
     }
 }
 
@@ -337,9 +385,9 @@ fn put_completion_cause(out: &mut [u8], at: usize, cause: Cause) -> usize
     requires { ⌜ at + (19 + length (completionCause (causeNumber cause) .value)) ≤ length (now out) ⌝ }
     ensures { λ r. ⌜ Wrote (now (out .entry)) at (fieldText (completionCause (causeNumber cause))) (now (out .exit)) r ⌝ }
 {
-    let p = writers::put_bytes(out, at, b"Completion-Cause:");
+    let p = put_bytes(out, at, b"Completion-Cause:");
     let q = put_cause(out, p, cause);
-    writers::put_bytes(out, q, b"\r\n")
+    put_bytes(out, q, b"\r\n")
 }
 
 // The size of what put_behind_commas writes, or cap + 1 where it is above cap.
@@ -431,7 +479,7 @@ fn put_response(
     let q = put_response_line(out, p, a);
     let r = put_channel_identifier(out, q, name);
     let s = put_id_list(out, r, ids);
-    writers::put_bytes(out, s, b"\r\n")
+    put_bytes(out, s, b"\r\n")
 }
 
 // Writes the event that ends request `id`, whose size is `size`, at `at`; returns the place behind it.
@@ -444,7 +492,7 @@ fn put_complete(out: &mut [u8], at: usize, size: usize, name: &[u8], id: u32, ca
     let q = put_event_line(out, p, id);
     let r = put_channel_identifier(out, q, name);
     let s = put_completion_cause(out, r, cause);
-    writers::put_bytes(out, s, b"\r\n")
+    put_bytes(out, s, b"\r\n")
 }
 
 // Writes the response at the front of `out`, or nothing where it is longer than `out`.
@@ -471,4 +519,21 @@ pub fn complete(out: &mut [u8], name: &[u8], id: u32, cause: Cause) -> Written
     }
     let end = put_complete(out, 0, size, name, id, cause);
     Written::Count(end)
+}
+
+// The cause that has the number `n`.
+pub fn cause_reported(n: u32) -> Reported
+    ensures { λ r. ⌜ r ≡ causeAt n ⌝ }
+{
+    match n {
+        0 => Reported::Cause(Cause::Normal),
+        1 => Reported::Cause(Cause::BargeIn),
+        2 => Reported::Cause(Cause::ParseFailure),
+        3 => Reported::Cause(Cause::UriFailure),
+        4 => Reported::Cause(Cause::Error),
+        5 => Reported::Cause(Cause::LanguageUnsupported),
+        6 => Reported::Cause(Cause::LexiconLoadFailure),
+        7 => Reported::Cause(Cause::Cancelled),
+        _ => Reported::NoCause,
+    }
 }

@@ -1,4 +1,4 @@
--- Runs at the front of a list, the comparison of two lists, and the length of a well-formed name. Assumes nothing.
+-- Runs at the front of a list, and the length of a well-formed name. Assumes nothing.
 use Prim.Native.Nat.{ℕ, _+_, _-_, _≤_, _<_}
 use mathlib.Core.Path.{_≡_, ap}
 use mathlib.Core.Bool.{Bool, true, false, _&&_, _||_}
@@ -8,7 +8,7 @@ use native.Mathlib.Omega.{arith}
 use lib.Dec.{leb}
 use lib.ListN.{length, take, drop, getD, drop-of-length-le, length-drop}
 use lib.Seq.{drop-cons, take-all}
-use borrow.Author.Tests.{eq-eqb, ne-eqb, leb-true}
+use borrow.Author.Tests.{leb-true}
 use Rattle.lists.specs.Lists.{run, same}
 use Rattle.lists.proofs.Tests.{refuted, both}
 use Rattle.lists.proofs.Scans.{same-so}
@@ -25,20 +25,6 @@ module _ (test : ℕ → Bool) (l : List ℕ) (i : ℕ) where
 
   pub run-step : i < length l → test (getD l i 0) ≡ true → i + run test (drop i l) ≡ i + 1 + run test (drop (i + 1) l)
   run-step h e = rw (add-one i, drop-cons l i 0 h, run, e) (omega arith)
-
-pub same-lengths : (a b : List ℕ) → (length a ≡ length b → ⊥) → same a b ≡ false
-same-lengths a b h = refuted (same a b) (λ e. h (ap length (same-so a b e)))
-
--- i compared: what the comparison has left
-module _ (a b : List ℕ) (i : ℕ) where
-  pub same-end : length a ≤ i → length b ≤ i → same (drop i a) (drop i b) ≡ true
-  same-end h k = rw (drop-of-length-le a h, drop-of-length-le b k)
-
-  pub same-stop : i < length a → i < length b → (getD a i 0 ≡ getD b i 0 → ⊥) → same (drop i a) (drop i b) ≡ false
-  same-stop h k n = rw (drop-cons a i 0 h, drop-cons b i 0 k, ne-eqb (getD a i 0) (getD b i 0) n)
-
-  pub same-step : i < length a → i < length b → getD a i 0 ≡ getD b i 0 → same (drop i a) (drop i b) ≡ same (drop (i + 1) a) (drop (i + 1) b)
-  same-step h k e = rw (add-one i, drop-cons a i 0 h, drop-cons b i 0 k, eq-eqb (getD a i 0) (getD b i 0) e)
 
 -- a part that goes to the end
 pub part-to-end : (l : List ℕ) (k : ℕ) → take (length l - k) (drop k l) ≡ drop k l

@@ -2,7 +2,7 @@
 use Prim.Native.Nat.{ℕ, zero, suc, _-_, _≤_}
 use mathlib.Core.Path.{_≡_, refl, sym, ap, _∙_}
 use mathlib.Core.Bool.{true, false}
-use mathlib.Core.List.{List, [], _∷_, map, append-nil}
+use mathlib.Core.List.{List, [], _∷_, _++_, map, append-nil}
 use native.Mathlib.Omega.{arith}
 use lib.Dec.{eqb}
 use lib.ListN.{length, take, getD, length-append, length-map, length-take, length-replicate}
@@ -12,14 +12,16 @@ use mir.Val.{Val}
 use denote.Laws.{Is}
 use Rattle.lists.specs.Lists.{isEmpty}
 use Rattle.synth.specs.Channel.{wellNamed, fresh, withQueue}
-use Rattle.synth.specs.States.{whileAny}
+use Rattle.synth.specs.States.{whileAny, active}
 use Rattle.synth.specs.Calls.{Opened, openChannel}
 use Rattle.synth.specs.declared.Entry.{Entry}
 use Rattle.synth.specs.declared.State.{State}
 use Rattle.synth.specs.declared.State.the-variants.{Idle}
 use Rattle.channel.specs.declared.Channel.{Channel}
 use Rattle.channel.specs.Channel.{view, opened, kept, noEntry, first}
+use Rattle.channel.specs.declared.Listing.{Listing}
 use Rattle.channel.proofs.Channel.{the-row}
+use Rattle.channel.proofs.Listing.{the-row as listing-row}
 
 -- owning an array says the length of the list of its elements' values
 length-of : (X Y : Type 0) (f : X → Y) (l : List X) (n : ℕ) → length (map f l) ≡ n → length l ≡ n
@@ -49,6 +51,9 @@ module _ (c : Channel) (vs : List Val) (good : Is the-row c vs) where
       go [] = refl
       go (e ∷ l) = sym (ne-eqb (suc (length l)) 0 (λ z. let y : suc (length l) ≡ 0 = z in omega arith))
 
+pub ids-16 : (l : Listing) (vs : List Val) → Is listing-row l vs → length (l .ids) ≡ 16
+ids-16 l vs good = search length-of
+
 module _ (c : Channel) where
   pub state-is : view c .state ≡ c .state
   unfolding view
@@ -72,14 +77,26 @@ module _ (c : Channel) where
   unfolding view
   queued queue count s h e = let z : count - 16 ≡ 0 = omega arith in rw (z, append-nil, e, s)
 
-  pub active-is : 1 ≤ c .count → c .count ≤ 16 → getD (c .queue) 0 noEntry ≡ first (view c .queue)
-  active-is h k = rw (queue-within k) (go (c .queue) (c .count) h)
+  -- the first entry, whatever the count says of the others
+  pub none-active : c .count ≡ 0 → noEntry ≡ first (view c .queue)
+  none-active z = rw (queue-within (omega arith), z)
+
+  pub active-is : length (c .queue) ≡ 16 → (c .count ≡ 0 → ⊥) → getD (c .queue) 0 noEntry ≡ first (view c .queue)
+  unfolding view
+  active-is l h = go (c .queue) (c .count) _ (omega arith) (λ z. h z)
     where
-      go : (l : List Entry) (n : ℕ) → 1 ≤ n → getD l 0 noEntry ≡ first (take n l)
-      go [] zero h = refl
-      go [] (suc n) h = refl
-      go (e ∷ l) zero h = absurd (omega arith)
-      go (e ∷ l) (suc n) h = refl
+      go : (l : List Entry) (n : ℕ) (rest : List Entry) → 1 ≤ length l → (n ≡ 0 → ⊥) → getD l 0 noEntry ≡ first (take n l ++ rest)
+      go [] n rest k h = absurd (let z : 1 ≤ 0 = k in omega arith)
+      go (e ∷ l) zero rest k h = absurd (h refl)
+      go (e ∷ l) (suc n) rest k h = refl
+
+  pub none-listed : c .count ≡ 0 → [] ≡ active (view c .queue)
+  none-listed z = rw (queue-within (omega arith), z)
+
+-- the active id is that of the first entry
+pub active-listed : (queue : List Entry) → (length queue ≡ 0 → ⊥) → first queue .id ∷ [] ≡ active queue
+active-listed [] h = absurd (h refl)
+active-listed (e ∷ queue) h = refl
 
 pub none-idle : (state : State) (rest : List Entry) → length rest ≡ 0 → whileAny state rest ≡ Idle
 none-idle state [] h = refl

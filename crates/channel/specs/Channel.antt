@@ -1,21 +1,19 @@
 -- The channel that the code keeps, as document 01 views it.
 use Prim.Native.Nat.{ℕ, suc, _-_, _/_, _%_, _^_, _≤_}
 use mathlib.Core.Path.{_≡_}
-use mathlib.Core.Bool.{Bool, true, false, Bool·beq}
+use mathlib.Core.Bool.{Bool, false, Bool·beq}
 use mathlib.Core.List.{List, [], _∷_, _++_}
 use lib.Dec.{eqb}
 use lib.ListN.{length, take, replicate}
 use Rattle.lists.specs.Lists.{put}
-use Rattle.synth.specs.Channel.{View, ids, withQueue}
-use Rattle.synth.specs.States.{whileAny}
+use Rattle.synth.specs.Channel.{View}
 use Rattle.synth.specs.Calls.{Opened}
 use Rattle.synth.specs.declared.Entry.{Entry}
-use Rattle.synth.specs.declared.State.{State}
 use Rattle.synth.specs.declared.State.the-variants.{Idle}
 use Rattle.synth.specs.declared.LastId.the-variants.{NoneSeen}
 use Rattle.channel.specs.declared.Channel.{Channel}
 use Rattle.channel.specs.declared.Opening.{Opening}
-use Rattle.channel.specs.declared.Ended.{Ended}
+use Rattle.channel.specs.declared.Listing.{Listing}
 
 -- what an array of entries holds past its end
 abbrev pub noEntry : Entry
@@ -65,8 +63,13 @@ pub record Holds (entries : List Entry) (count : ℕ) (queue : List Entry) : Typ
   pub counted : count ≡ length queue
   pub few : count ≤ 16
 
--- those of `gone` ended: their ids are listed in queue order, and `rest` is outstanding in `state`, or none and the channel is idle
-pub record Ends (c : Channel) (gone rest : List Entry) (state : State) (r : Ended) : Type 0 where
-  pub listed : take (r .count) (r .ids) ≡ ids gone
-  pub counted : r .count ≡ length gone
-  pub left : view (r .channel) ≡ withQueue (whileAny state rest) rest (view c)
+-- nothing listed, and the channel as it was
+abbrev pub listsNone : Channel → Listing
+listsNone c = record { ids = replicate 16 0; count = 0; channel = c }
+
+-- these ids are listed, and the channel is seen so afterwards
+pub record Lists (listed : List ℕ) (next : View) (r : Listing) : Type 0 where
+  pub shown : take (r .count) (r .ids) ≡ listed
+  pub counted : r .count ≡ length listed
+  pub few : r .count ≤ 16
+  pub left : view (r .channel) ≡ next

@@ -1,18 +1,19 @@
 // A channel by value, its soundness, its opening and its queue: document 01, "Refusal numbers" and "States and queue".
 ghost use mathlib.Core.Path.{_≡_};
-ghost use mathlib.Core.Bool.{true, false, _||_};
+ghost use mathlib.Core.Bool.{true, false, _||_, _&&_};
 ghost use mathlib.Core.List.{List, [], _∷_, _++_};
-ghost use Prim.Native.Nat.{_+_, _-_, _<_, _≤_};
+ghost use Prim.Native.Nat.{_-_, _<_, _≤_};
+ghost use lib.Dec.{leb};
 ghost use lib.ListN.{length, take, drop, replicate};
 ghost use Rattle.lists.specs.Lists.{run, same, ascends};
 ghost use Rattle.octets.specs.Octets.{within, isLetter, isDigit};
-ghost use Rattle.synth.specs.Channel.{sound, wellNamed, withQueue, withLast, isIdle, firstAbove, ids as idsOf};
-ghost use Rattle.synth.specs.States.{whileAny};
+ghost use Rattle.synth.specs.Channel.{sound, wellNamed, withQueue, withLast, isIdle, firstAbove, held, ids as idsOf};
+ghost use Rattle.synth.specs.States.{whileAny, active as activeIn};
 ghost use Rattle.synth.specs.Calls.{openChannel};
 ghost use Rattle.synth.specs.declared.Entry.{Entry};
 ghost use Rattle.synth.specs.declared.State.the-variants.{Idle, Speaking};
 ghost use Rattle.synth.specs.declared.LastId.the-variants.{Seen};
-ghost use Rattle.channel.specs.Channel.{view, opened, kept, first, bit, marked, Holds, Ends};
+ghost use Rattle.channel.specs.Channel.{view, opened, kept, first, bit, marked, listsNone, Holds, Lists};
 
 // What the caller keeps of a channel. Bytes of `name` from `size` on and entries of `queue` from `count` on mean nothing.
 pub struct Channel {
@@ -30,8 +31,8 @@ pub struct Opening {
     pub channel: Channel,
 }
 
-// The ids that ended, the first `count` of `ids`, and the channel afterwards.
-pub struct Ended {
+// The ids that an answer lists, the first `count` of `ids`, and the channel afterwards.
+pub struct Listing {
     pub ids: [u32; 16],
     pub count: usize,
     pub channel: Channel,
@@ -78,22 +79,6 @@ fn word(name: &[u8]) -> usize
     i
 }
 
-fn equal(a: &[u8], b: &[u8]) -> bool
-    ensures { λ r. ⌜ r ≡ same (now (a .entry)) (now (b .entry)) ⌝ }
-{
-    if a.len() != b.len() {
-        return false;
-    }
-    let mut i: usize = 0;
-    while i < a.len() {
-        if a[i] != b[i] {
-            return false;
-        }
-        i += 1;
-    }
-    true
-}
-
 // 1 to 32 letters or digits, then `@speechsynth`.
 pub fn well_named(name: &[u8]) -> bool
     ensures { λ r. ⌜ r ≡ wellNamed (now (name .entry)) ⌝ }
@@ -105,7 +90,7 @@ pub fn well_named(name: &[u8]) -> bool
     if 32 < k {
         return false;
     }
-    equal(&name[k..], b"@speechsynth")
+    octets::equal(&name[k..], b"@speechsynth")
 }
 
 pub fn is_idle(s: synth::State) -> bool
@@ -119,7 +104,7 @@ pub fn is_idle(s: synth::State) -> bool
 }
 
 // The first id above the last one seen, which needs a 33rd bit.
-fn first_above(last: synth::LastId) -> u64
+pub fn first_above(last: synth::LastId) -> u64
     ensures { λ r. ⌜ (r ≡ firstAbove last) × (r ≤ 4294967296) ⌝ }
 {
     match last {
@@ -160,16 +145,16 @@ pub fn is_sound(c: Channel) -> bool
         return false;
     }
     let state = c.state;
-    let count = c.count;
-    if is_idle(state) != (count == 0) {
+    let outstanding = c.count;
+    if is_idle(state) != (outstanding == 0) {
         return false;
     }
-    if 16 < count {
+    if 16 < outstanding {
         return false;
     }
     let queue = c.queue;
     let last = c.last;
-    rising(queue, count, first_above(last))
+    rising(queue, outstanding, first_above(last))
 }
 
 // The bytes, and zeros after them.
@@ -221,21 +206,43 @@ pub fn open_channel(name: &[u8]) -> Opening
     }
 }
 
+// A name longer than the array, which no sound channel has, is no name.
 pub fn has_name(c: Channel, v: &[u8]) -> bool
-    requires { ⌜ c .size ≤ 44 ⌝ }
-    ensures { λ r. ⌜ r ≡ same (view c .name) (now (v .entry)) ⌝ }
+    ensures { λ r. ⌜ r ≡ (leb (length (view c .name)) 44 && same (view c .name) (now (v .entry))) ⌝ }
 {
     let size = c.size;
+    if 44 < size {
+        return false;
+    }
     let name = c.name;
-    equal(&name[..size], v)
+    octets::equal(&name[..size], v)
 }
 
-// A SPEAK joins the end of the queue.
-pub fn join(c: Channel, id: u32, kill: bool, state: synth::State) -> Channel
-    requires { ⌜ c .count < 16 ⌝ }
-    ensures { λ r. ⌜ view r ≡ withQueue state (view c .queue ++ (record { id = id; kill = kill } ∷ [])) (view c) ⌝ }
+// Whether `id` is above the last one seen.
+pub fn is_above(c: Channel, id: u32) -> bool
+    ensures { λ r. ⌜ r ≡ leb (firstAbove (view c .last)) id ⌝ }
+{
+    let last = c.last;
+    first_above(last) <= id as u64
+}
+
+// Whether no other SPEAK may join.
+pub fn is_full(c: Channel) -> bool
+    ensures { λ r. ⌜ r ≡ leb 16 (length (view c .queue)) ⌝ }
 {
     let n = c.count;
+    16 <= n
+}
+
+// A SPEAK joins the end of the queue, where there is room.
+pub fn join(c: Channel, id: u32, kill: bool, state: synth::State) -> Channel
+    ensures { λ r. ⌜ (length (view c .queue) < 16 → view r ≡ withQueue state (view c .queue ++ (record { id = id; kill = kill } ∷ [])) (view c)) ⌝ }
+    ensures { λ r. ⌜ (16 ≤ length (view c .queue) → r ≡ c) ⌝ }
+{
+    let n = c.count;
+    if 16 <= n {
+        return c;
+    }
     let mut queue = c.queue;
     queue[n] = synth::Entry { id, kill };
     Channel {
@@ -261,27 +268,16 @@ pub fn in_state(c: Channel, state: synth::State) -> Channel
     Channel { state, ..c }
 }
 
-pub fn active_id(c: Channel) -> u32
-    requires { ⌜ (1 ≤ c .count) × (c .count ≤ 16) ⌝ }
-    ensures { λ r. ⌜ r ≡ first (view c .queue) .id ⌝ }
-{
-    let queue = c.queue;
-    let e = queue[0];
-    e.id
-}
-
-// Whether barge-in kills the active one; with none there is none to kill.
-pub fn active_kills(c: Channel) -> bool
-    requires { ⌜ c .count ≤ 16 ⌝ }
-    ensures { λ r. ⌜ r ≡ first (view c .queue) .kill ⌝ }
+// The active one.
+pub fn active(c: Channel) -> synth::Entry
+    ensures { λ r. ⌜ r ≡ first (view c .queue) ⌝ }
 {
     let n = c.count;
     if n == 0 {
-        return false;
+        return synth::Entry { id: 0, kill: false };
     }
     let queue = c.queue;
-    let e = queue[0];
-    e.kill
+    queue[0]
 }
 
 // Idle where none is outstanding.
@@ -311,10 +307,18 @@ fn forward(old: [synth::Entry; 16], n: usize) -> [synth::Entry; 16]
 
 // The active one is done: the next becomes active and speaking.
 pub fn end_first(c: Channel) -> Channel
-    requires { ⌜ (1 ≤ c .count) × (c .count ≤ 16) ⌝ }
-    ensures { λ r. ⌜ view r ≡ (let rest = drop 1 (view c .queue) in withQueue (whileAny Speaking rest) rest (view c)) ⌝ }
+    ensures { λ r. ⌜ (1 ≤ length (view c .queue) → length (view c .queue) ≤ 16 → view r ≡ (let rest = drop 1 (view c .queue) in withQueue (whileAny Speaking rest) rest (view c))) ⌝ }
+    ensures { λ r. ⌜ (length (view c .queue) ≡ 0 → r ≡ c) ⌝ }
+    ensures { λ r. ⌜ (16 < length (view c .queue) → r ≡ c) ⌝ }
 {
-    let n = c.count - 1;
+    let count = c.count;
+    if count == 0 {
+        return c;
+    }
+    if 16 < count {
+        return c;
+    }
+    let n = count - 1;
     let old = c.queue;
     let queue = forward(old, n);
     let state = while_any(synth::State::Speaking, n);
@@ -340,24 +344,69 @@ fn ids_of(queue: [synth::Entry; 16], count: usize) -> [u32; 16]
     ids
 }
 
-// All outstanding end.
-pub fn end_all(c: Channel) -> Ended
-    requires { ⌜ c .count ≤ 16 ⌝ }
-    ensures { λ r. ⌜ Ends c (view c .queue) [] Idle r ⌝ }
+// Nothing is listed, and nothing changes.
+pub fn list_none(c: Channel) -> Listing
+    ensures { λ r. ⌜ r ≡ listsNone c ⌝ }
+{
+    Listing {
+        ids: [0u32; 16],
+        count: 0,
+        channel: c,
+    }
+}
+
+// The active id is listed, where there is one.
+pub fn list_active(c: Channel) -> Listing
+    ensures { λ r. ⌜ Lists (activeIn (view c .queue)) (view c) r ⌝ }
+{
+    let n = c.count;
+    if n == 0 {
+        return list_none(c);
+    }
+    let e = active(c);
+    let mut ids = [0u32; 16];
+    ids[0] = e.id;
+    Listing {
+        ids,
+        count: 1,
+        channel: c,
+    }
+}
+
+// All ids that the channel holds are listed.
+pub fn list_held(c: Channel) -> Listing
+    ensures { λ r. ⌜ (length (view c .queue) ≤ 16 → Lists (held (view c)) (view c) r) ⌝ }
+    ensures { λ r. ⌜ (16 < length (view c .queue) → r ≡ listsNone c) ⌝ }
 {
     let count = c.count;
+    if 16 < count {
+        return list_none(c);
+    }
     let queue = c.queue;
     let ids = ids_of(queue, count);
+    Listing {
+        ids,
+        count,
+        channel: c,
+    }
+}
+
+// All outstanding end.
+pub fn end_all(c: Channel) -> Listing
+    ensures { λ r. ⌜ (length (view c .queue) ≤ 16 → Lists (held (view c)) (withQueue Idle [] (view c)) r) ⌝ }
+    ensures { λ r. ⌜ (16 < length (view c .queue) → r ≡ listsNone c) ⌝ }
+{
+    let held = c.count;
+    if 16 < held {
+        return list_none(c);
+    }
+    let all = list_held(c);
     let channel = Channel {
-        state: synth::State::Idle,
+        state: synth::State::Idle, // none is outstanding
         count: 0,
         ..c
     };
-    Ended {
-        ids,
-        count,
-        channel,
-    }
+    Listing { channel, ..all }
 }
 
 fn bit(mask: u64, j: usize) -> bool
@@ -389,11 +438,14 @@ fn pick(queue: [synth::Entry; 16], count: usize, mask: u64, want: bool) -> Picke
 }
 
 // Those end whose bit is set, an entry's bit being its place in the queue; the next becomes active in the same state.
-pub fn end_marked(c: Channel, mask: u64) -> Ended
-    requires { ⌜ c .count ≤ 16 ⌝ }
-    ensures { λ r. ⌜ Ends c (marked true mask 0 (view c .queue)) (marked false mask 0 (view c .queue)) (view c .state) r ⌝ }
+pub fn end_marked(c: Channel, mask: u64) -> Listing
+    ensures { λ r. ⌜ (length (view c .queue) ≤ 16 → (let rest = marked false mask 0 (view c .queue) in Lists (idsOf (marked true mask 0 (view c .queue))) (withQueue (whileAny (view c .state) rest) rest (view c)) r)) ⌝ }
+    ensures { λ r. ⌜ (16 < length (view c .queue) → r ≡ listsNone c) ⌝ }
 {
     let n = c.count;
+    if 16 < n {
+        return list_none(c);
+    }
     let old = c.queue;
     let gone = pick(old, n, mask, true);
     let rest = pick(old, n, mask, false);
@@ -410,7 +462,7 @@ pub fn end_marked(c: Channel, mask: u64) -> Ended
         count: left,
         ..c
     };
-    Ended {
+    Listing {
         ids,
         count,
         channel,

@@ -3,7 +3,6 @@ use mathlib.Core.Path.{_≡_, refl, sym, ap, _∙_}
 use native.Mathlib.Omega.{arith}
 use mathlib.Core.List.{List, [], _∷_, _++_}
 use Prim.Native.Nat.{ℕ, zero, suc, _+_, _≤_, _<_}
-use lib.Dec.{ltb}
 use lib.ListN.{length, take, drop, set}
 use lib.Seq.{length-take-le}
 use borrow.Author.Tests.{lt-ltb, le-ltb}
@@ -19,7 +18,8 @@ use Rattle.framing.proofs.Frames.{Fits, frame-fits}
 use Rattle.message.specs.Message.{Reading, refused}
 use Rattle.message.specs.Reading.{fieldsFrom, readFrom, readFramed, reading}
 use Rattle.startline.specs.declared.StartLine as L
-use Rattle.firmware.specs.Face.{Face, handed, framed, frameFace, stateNumber, startNumbers, Numbers, numbersOf, fieldsNumbers, ReadFace, consuming, frameAs, readAs, readFace, called}
+use Rattle.firmware.specs.Face.{Face, handed, framed, frameFace, stateNumber, startNumbers, fieldsNumbers, ReadFace, consuming, readAs, readFace, called}
+use Rattle.firmware.specs.Steps.{Numbers, numbersOf, frameAs}
 use Rattle.firmware.specs.declared.StartNumbers.{StartNumbers}
 
 pub too-short : (answer out : List ℕ) → length out < length answer → handed answer out ≡ record { number = 7; out = out }

@@ -1,13 +1,11 @@
 -- Numbers laid one behind the other into a lent output, and that they are a message's numbers. Assumes nothing.
 use mathlib.Core.Path.{_≡_, refl, sym, ap, _∙_}
-use mathlib.Core.Bool.{Bool, true, false}
 use mathlib.Core.List.{List, [], _∷_, _++_, map, append-assoc, append-nil}
-use Prim.Native.Nat.{ℕ, zero, suc, _+_, _*_, _-_, _≤_, _<_}
-use native.Mathlib.Nat.{add-zero}
+use Prim.Native.Nat.{ℕ, _+_, _*_, _-_, _≤_, _<_}
 use native.Mathlib.Numerals.{add-one}
 use native.Mathlib.Omega.{arith}
 use lib.ListN.{length, getD, take-append-drop, take, drop, replicate, length-append, length-map, length-replicate}
-use lib.Seq.{take-at, drop-at, take-append-seam, drop-append-add, drop-drop, take-suc, take-append-le, length-take-le}
+use lib.Seq.{take-at, drop-at, take-append-seam, drop-append-add, drop-drop, take-suc, length-take-le}
 use Rattle.message.specs.Message.{Fields, bad, good}
 use Rattle.message.specs.Message as M
 use Rattle.message.specs.Reading.{fieldsFrom}
@@ -16,7 +14,8 @@ use Rattle.message.proofs.Says.{Judged, fields-from}
 use Rattle.header.specs.Header.{headerOf, fieldOf, noField}
 use Rattle.header.specs.declared.Field.{Field}
 use Rattle.header.specs.declared.Header.{Header}
-use Rattle.firmware.specs.Face.{Face, handed, numbersOf, headNumbers, fieldNumbers, fieldsNumbers, goodNumber}
+use Rattle.firmware.specs.Face.{handed, fieldNumbers, fieldsNumbers, goodNumber}
+use Rattle.firmware.specs.Steps.{numbersOf, headNumbers}
 use Rattle.firmware.specs.declared.StartNumbers.{StartNumbers}
 use Rattle.firmware.specs.declared.Gist.{Gist}
 use Rattle.firmware.proofs.Faces.{too-short, fits}

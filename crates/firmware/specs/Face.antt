@@ -8,17 +8,11 @@ use Rattle.framing.specs.Framing.{framing, refusal}
 use Rattle.framing.specs.declared.Framing.{Framing}
 use Rattle.framing.specs.declared.Framing.the-variants.{More, NoMessage, TooLong, TooShort, Frame}
 use Rattle.message.specs.Message.{Start, request, response, event, Field, Fields, bad, good, Head, Reading, refused, message}
-use Rattle.message.specs.StartLines.{Started, started}
-use Rattle.message.specs.Reading.{fieldsFrom, reading}
+use Rattle.message.specs.Reading.{reading}
 use Rattle.message.specs.declared.Span.{Span}
 use Rattle.message.specs.declared.RequestState.{RequestState}
 use Rattle.message.specs.declared.RequestState.the-variants.{Pending, InProgress, Complete}
 use Rattle.header.specs.Header.{maskWith, namesIn}
-use Rattle.startline.specs.StartLine.{startOf}
-use Rattle.startline.specs.declared.Start as S
-use Rattle.firmware.specs.declared.StartNumbers.{StartNumbers}
-use Rattle.firmware.specs.declared.Gist.{Gist}
-use mathlib.Core.Path.{_≡_}
 
 -- a call's number, and the numbers lent to it as it leaves them
 pub record Face : Type 0 where
@@ -32,11 +26,12 @@ handed answer out = elim (ltb (length out) (length answer)) [
   | false ↦ record { number = 0; out = answer ++ drop (length answer) out }
 ]
 
+-- the number of a refusal; else version, and the lengths of the opening and of the frame
 abbrev pub framed : Framing → List ℕ → Face
-framed More out = record { number = 1; out = out }
-framed NoMessage out = record { number = 2; out = out }
-framed TooLong out = record { number = 3; out = out }
-framed TooShort out = record { number = 4; out = out }
+framed More out = record { number = refusal More; out = out }
+framed NoMessage out = record { number = refusal NoMessage; out = out }
+framed TooLong out = record { number = refusal TooLong; out = out }
+framed TooShort out = record { number = refusal TooShort; out = out }
 framed (Frame major minor k n) out = handed (major ∷ minor ∷ k ∷ n ∷ []) out
 
 unfoldable pub frameFace : List ℕ → List ℕ → Face
@@ -53,13 +48,6 @@ startNumbers major minor (request name id) = 1 ∷ major ∷ minor ∷ name .sta
 startNumbers major minor (response id status state) = 2 ∷ major ∷ minor ∷ 0 ∷ 0 ∷ id ∷ status ∷ stateNumber state ∷ []
 startNumbers major minor (event name id state) = 3 ∷ major ∷ minor ∷ name .start ∷ name .len ∷ id ∷ 0 ∷ stateNumber state ∷ []
 
--- the same from the code's own struct
-abbrev pub numbersOf : ℕ → ℕ → StartNumbers → List ℕ
-numbersOf major minor n = n .kind ∷ major ∷ minor ∷ n .name ∷ n .len ∷ n .id ∷ n .status ∷ n .state ∷ []
-
-pub record Numbers (start : S.Start) (n : StartNumbers) : Type 0 where
-  pub same : (major minor : ℕ) → numbersOf major minor n ≡ startNumbers major minor (startOf start)
-
 abbrev pub fieldNumbers : List (Field Span) → List ℕ
 fieldNumbers [] = []
 fieldNumbers (f ∷ fs) = f .name .start ∷ f .name .len ∷ f .value .start ∷ f .value .len ∷ fieldNumbers fs
@@ -67,10 +55,6 @@ fieldNumbers (f ∷ fs) = f .name .start ∷ f .name .len ∷ f .value .start �
 abbrev pub goodNumber : Bool → ℕ
 goodNumber true = 1
 goodNumber false = 0
-
--- the numbers in front of the fields, from the code's own structs
-abbrev pub headNumbers : ℕ → ℕ → StartNumbers → Gist → List ℕ
-headNumbers major minor n g = numbersOf major minor n ++ (g .good ∷ g .count ∷ g .body ∷ g .len ∷ g .mask ∷ 0 ∷ 0 ∷ 0 ∷ [])
 
 -- whether the fields are good, how many there are, the body, the mask of known names, three zeros; then the fields
 abbrev pub fieldsNumbers : List ℕ → Fields Span → List ℕ
@@ -88,12 +72,6 @@ pub record ReadFace : Type 0 where
 
 abbrev pub consuming : ℕ → Face → ReadFace
 consuming n f = record { number = f .number; consumed = elim (f .number) [ zero ↦ n | suc k ↦ 0 ]; out = f .out }
-
--- a frame f, by its version and its start line
-abbrev pub frameAs : List ℕ → ℕ → ℕ → Started → List ℕ → ReadFace
-frameAs f major minor Started.malformed out = record { number = 5; consumed = length f; out = out }
-frameAs f major minor (started st at) out =
-    consuming (length f) (handed (startNumbers major minor st ++ fieldsNumbers f (fieldsFrom f at)) out)
 
 abbrev pub readAs : List ℕ → Reading Span → List ℕ → ReadFace
 readAs s (refused number consumed) out = record { number = number; consumed = consumed; out = out }

@@ -1,11 +1,12 @@
 // The C face of framing and reading: numbers and buffers in, numbers out. include/klarvesimo.h is its manual.
 ghost use mathlib.Core.Path.{_≡_};
 ghost use mathlib.Core.List.{[], _∷_, _++_};
-ghost use Prim.Native.Nat.{ℕ, _+_, _*_, _≤_};
+ghost use Prim.Native.Nat.{_+_, _*_, _≤_};
 ghost use lib.ListN.{length, take, drop};
 ghost use Rattle.message.specs.StartLines.{startLine};
 ghost use Rattle.message.specs.Reading.{fieldsFrom};
-ghost use Rattle.firmware.specs.Face.{frameFace, handed, stateNumber, Numbers, numbersOf, headNumbers, fieldsNumbers, goodNumber, readFace, frameAs, called};
+ghost use Rattle.firmware.specs.Face.{frameFace, handed, stateNumber, fieldsNumbers, goodNumber, readFace, called};
+ghost use Rattle.firmware.specs.Steps.{Numbers, numbersOf, headNumbers, frameAs};
 
 // Four numbers at `at`.
 fn put_four(out: &mut [u64], at: usize, a: u64, b: u64, c: u64, d: u64)

@@ -8,13 +8,12 @@ use lib.Bits.{bitAnd}
 use lib.Dec.{eqb}
 use lib.ListN.{getD}
 use borrow.Author.Tests.{eq-eqb, ne-eqb}
-use Rattle.octets.specs.Octets.{classes}
-use Rattle.octets.proofs.Bits.{has}
+use Rattle.octets.specs.Octets.{classes, Stands}
 
--- a test that a bit of the class stands for, of a byte b, by the table t
-module _ (bits : ℕ) (test : ℕ → Bool) (law : (b : ℕ) → b < 256 → has bits b ≡ test b) (t : List ℕ) (e : t ≡ classes) (b : ℕ) (h : b < 256) where
+-- a test that bits of the class stand for, of a byte b, by the table t
+module _ {bits : ℕ} {test : ℕ → Bool} (s : Stands bits test) (t : List ℕ) (e : t ≡ classes) (b : ℕ) (h : b < 256) where
   by-table : not (eqb (bitAnd (getD t b 0) bits) 0) ≡ test b
-  by-table = ap (λ (t : List ℕ). not (eqb (bitAnd (getD t b 0) bits) 0)) e ∙ law b h
+  by-table = ap (λ (t : List ℕ). not (eqb (bitAnd (getD t b 0) bits) 0)) e ∙ s .law b h
 
   pub bit-clear : bitAnd (getD t b 0) bits ≡ 0 → test b ≡ false
   bit-clear z = sym by-table ∙ ap not (eq-eqb (bitAnd (getD t b 0) bits) 0 z)

@@ -1,10 +1,10 @@
 pub mod Runs
 pub mod Classed
 pub mod Numerals
-pub mod Texts
 pub mod Names
 pub mod Places
 pub mod Masks
+pub mod Sets
 pub mod ByRuns
 pub mod Lining
 pub mod Marks

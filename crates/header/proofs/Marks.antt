@@ -4,11 +4,12 @@ use mathlib.Core.Path.{_≡_, refl, sym, ap, _∙_}
 use mathlib.Core.Bool.{Bool, true, false, not, _&&_, _||_, or-assoc, or-true, or-false, and-false, false≢true}
 use mathlib.Core.Logic.{⊎-elim}
 use mathlib.Core.List.{List, [], _∷_, _++_}
-use Prim.Native.Nat.{ℕ, suc, _+_, _%_}
+use Prim.Native.Nat.{ℕ, zero, suc, _+_, _%_, _≤_, _<_}
 use native.Mathlib.Nat.{add-zero, add-suc, suc-add, div-eq-of-lt}
+use native.Mathlib.Omega.{arith}
 use lib.Bits.{bitAnd, bitOr}
-use lib.Dec.{eqb}
-use lib.ListN.{length, getD, set}
+use lib.Dec.{eqb, lit<}
+use lib.ListN.{length, getD, set, replicate}
 use lib.Pow.{pow-pos}
 use lib.Seq.{getD-set-other}
 use borrow.Author.Tests.{eqb-true, eqb-false, eq-eqb, not-true}
@@ -16,7 +17,9 @@ use Rattle.lists.proofs.Tests.{both, either, refuted}
 use Rattle.message.specs.Known.{indexOf, is, isKnown, among, onceEach}
 use Rattle.message.specs.declared.Known.{Known}
 use Rattle.header.specs.Header.{bitOf, maskWith, whichFrom}
-use Rattle.header.proofs.Masks.{bit, test-name, set-name}
+use Rattle.lists.proofs.Masks.{bit}
+use Rattle.header.specs.Steps.{knownBit}
+use Rattle.header.proofs.Masks.{test-name, set-name}
 
 -- a name more
 pub mask-last : (m : ℕ) (ks : List Known) (k : Known) → maskWith m (ks ++ k ∷ []) ≡ bitOr (maskWith m ks) (bitOf k)
@@ -44,27 +47,25 @@ among-append : (k : Known) (ks js : List Known) → among k (ks ++ js) ≡ (amon
 among-append k [] js = refl
 among-append k (x ∷ ks) js = rw (among-append k ks js, or-assoc)
 
--- a known name's bit is set where the name came
+-- a name's bit is set where the name came
 swap : (a b c : Bool) → (a || (b || c)) ≡ ((b || a) || c)
 swap true true c = refl
 swap true false c = refl
 swap false true c = refl
 swap false false c = refl
 
-mask-bit : (m : ℕ) (ks : List Known) (k : Known) → isKnown k ≡ true → bit (maskWith m ks) (indexOf k) ≡ (among k ks || bit m (indexOf k))
-mask-bit m [] k e = refl
-mask-bit m (j ∷ ks) k e =
-    mask-bit (bitOr m (bitOf j)) ks k e ∙ ap (λ b. among k ks || b) (set-name m j k e) ∙ swap (among k ks) (is k j) (bit m (indexOf k))
+mask-bit : (m : ℕ) (ks : List Known) (k : Known) → bit (maskWith m ks) (indexOf k) ≡ (among k ks || bit m (indexOf k))
+mask-bit m [] k = refl
+mask-bit m (j ∷ ks) k =
+    mask-bit (bitOr m (bitOf j)) ks k ∙ ap (λ b. among k ks || b) (set-name m j k) ∙ swap (among k ks) (is k j) (bit m (indexOf k))
 
 none-set : (i : ℕ) → bit 0 i ≡ false
 none-set i = ap (λ n. eqb (n % 2) 1) (div-eq-of-lt (pow-pos i))
 
-pub mask-test : (ks : List Known) (k : Known) → eqb (bitAnd (maskWith 0 ks) (bitOf k)) 0 ≡ not (isKnown k && among k ks)
-mask-test ks k = test-name (maskWith 0 ks) k ∙ ap not (go (isKnown k) refl)
-  where
-    go : (b : Bool) → isKnown k ≡ b → (b && bit (maskWith 0 ks) (indexOf k)) ≡ (b && among k ks)
-    go true e = mask-bit 0 ks k e ∙ ap (λ b. among k ks || b) (none-set (indexOf k)) ∙ or-false (among k ks)
-    go false e = refl
+pub mask-test : (ks : List Known) (k : Known) → eqb (bitAnd (maskWith 0 ks) (knownBit k)) 0 ≡ not (isKnown k && among k ks)
+mask-test ks k =
+    test-name (maskWith 0 ks) k
+    ∙ ap (λ b. not (isKnown k && b)) (mask-bit 0 ks k ∙ ap (λ b. among k ks || b) (none-set (indexOf k)) ∙ or-false (among k ks))
 
 conj : (a b : Bool) → a ≡ true → b ≡ true → (a && b) ≡ true
 conj a b p q = rw (p, q)
@@ -117,3 +118,23 @@ which-kept j (x ∷ ks) w k h = which-kept (suc j) ks (set w (indexOf x) j) k (g
     go : (a b : Bool) → (a || b) ≡ false → (a ≡ false) × (b ≡ false)
     go true b e = absurd (false≢true (sym e))
     go false b e = (refl, e)
+
+-- a number that stands for a name is that of a field
+set-below : (n : ℕ) (w : List ℕ) (p v : ℕ) → ((i : ℕ) → getD w i 0 < n) → v < n → (i : ℕ) → getD (set w p v) i 0 < n
+set-below n [] p v h l i = h i
+set-below n (x ∷ w) zero v h l zero = l
+set-below n (x ∷ w) zero v h l (suc i) = h (suc i)
+set-below n (x ∷ w) (suc p) v h l zero = h 0
+set-below n (x ∷ w) (suc p) v h l (suc i) = set-below n w p v (λ i. h (suc i)) l i
+
+which-under : (n j : ℕ) (ks : List Known) (w : List ℕ) → ((i : ℕ) → getD w i 0 < n) → j + length ks ≤ n → (i : ℕ) → getD (whichFrom j ks w) i 0 < n
+which-under n j [] w h l = h
+which-under n j (k ∷ ks) w h l = which-under n (suc j) ks (set w (indexOf k) j) (set-below n w (indexOf k) j h (omega arith)) (omega arith)
+
+zeros : (m i : ℕ) → getD (replicate m 0) i 0 < 32
+zeros zero i = lit< tt
+zeros (suc m) zero = lit< tt
+zeros (suc m) (suc i) = zeros m i
+
+pub which-below : (ks : List Known) → length ks ≤ 32 → (i : ℕ) → getD (whichFrom 0 ks (replicate 16 0)) i 0 < 32
+which-below ks h = which-under 32 0 ks (replicate 16 0) (zeros 16) (omega arith)

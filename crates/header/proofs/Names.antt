@@ -9,10 +9,10 @@ use lib.ListN.{length}
 use borrow.Author.Tests.{eqb-false}
 use Rattle.lists.specs.Lists.{same}
 use Rattle.octets.specs.Octets.{bytes, lower}
+use Rattle.octets.proofs.Texts.{lower-lengths}
 use Rattle.message.specs.Known.{orElse, knownOf}
 use Rattle.message.specs.declared.Known.{Known}
 use Rattle.message.specs.declared.Known.the-variants.{ChannelIdentifier, ContentLength, ContentType, ActiveRequestIdList, KillOnBargeIn, ProxySyncId, LoggingTag, Unknown}
-use Rattle.header.proofs.Texts.{same-length}
 
 -- the names in small letters, in the order of the definition
 abbrev name : Known → List ℕ
@@ -35,7 +35,7 @@ module _ (n : List ℕ) where
   orNone k = orElse (same (lower n) (name k)) k Unknown
 
   other : (m : ℕ) → length n ≡ m → (k : Known) → eqb m (length (name k)) ≡ false → same (lower n) (name k) ≡ false
-  other m e k d = same-length n (name k) (λ q. eqb-false m (length (name k)) d (sym e ∙ q))
+  other m e k d = lower-lengths n (name k) (λ q. eqb-false m (length (name k)) d (sym e ∙ q))
 
   pub known-by : (k : Known) → length n ≡ length (name k) → knownOf n ≡ orNone k
   unfolding knownOf
@@ -119,11 +119,11 @@ module _ (n : List ℕ) where
   unfolding knownOf
   known-none h11 h12 h13 h14 h16 h18 h22 =
       simp (
-        same-length n (name ChannelIdentifier) h18,
-        same-length n (name ContentLength) h14,
-        same-length n (name ContentType) h12,
-        same-length n (name ActiveRequestIdList) h22,
-        same-length n (name KillOnBargeIn) h16,
-        same-length n (name ProxySyncId) h13,
-        same-length n (name LoggingTag) h11,
+        lower-lengths n (name ChannelIdentifier) h18,
+        lower-lengths n (name ContentLength) h14,
+        lower-lengths n (name ContentType) h12,
+        lower-lengths n (name ActiveRequestIdList) h22,
+        lower-lengths n (name KillOnBargeIn) h16,
+        lower-lengths n (name ProxySyncId) h13,
+        lower-lengths n (name LoggingTag) h11,
       )

@@ -24,13 +24,13 @@ use Rattle.message.specs.declared.Known.{Known}
 use Rattle.message.specs.declared.Known.the-variants.{ContentLength}
 use Rattle.message.proofs.Rows.{Laid, laid}
 use Rattle.header.specs.Header.{nowhere, noField, bitOf, maskWith, whichFrom, namesIn, headerOf}
-use Rattle.header.specs.Steps.{badHeader, mayCome, stepOf, givenBy, foundBy, valueAt}
+use Rattle.header.specs.Steps.{badHeader, knownBit, mayCome, stepOf, givenBy, foundBy, valueAt}
 use Rattle.header.specs.declared.Field.{Field}
 use Rattle.header.specs.declared.Step.{Step}
 use Rattle.header.specs.declared.Header.{Header}
 use Rattle.header.specs.declared.Found.{Found}
-use Rattle.header.proofs.Marks.{mask-last, which-last, mask-test, once-last, which-kept}
-use Rattle.header.proofs.Values.{asField, laidOut, came, found-value}
+use Rattle.header.proofs.Marks.{mask-last, which-last, mask-test, once-last, which-below}
+use Rattle.header.proofs.Values.{asField, laidOut, found-value}
 use Rattle.header.proofs.Gathering.{gathered, as-were, gathered-more, blank-more, front, lines-malformed, lines-empty, lines-full, lines-field, lines-more}
 use Rattle.header.proofs.Stepping.{judgedStep, line-end, Comes, line-field}
 use Rattle.header.proofs.Gathering.{names-append, names-length, judged-twice, judged-by}
@@ -64,12 +64,12 @@ module _ (f : List ℕ) (at : ℕ) (h : Header) (i : ℕ) (o : Onward f at h i) 
   unfolding fieldsFrom
   answer t e = ap (λ t. headerOf f (judged f t)) (sym e)
 
-  by-bit : (k : Known) (t : Bool) → eqb (bitAnd (h .mask) (bitOf k)) 0 ≡ t → not (isKnown k && among k (namesIn f so)) ≡ t
-  by-bit k t z = sym (mask-test (namesIn f so) k) ∙ ap (λ m. eqb (bitAnd m (bitOf k)) 0) (sym (o .bits)) ∙ z
+  by-bit : (k : Known) (t : Bool) → eqb (bitAnd (h .mask) (knownBit k)) 0 ≡ t → not (isKnown k && among k (namesIn f so)) ≡ t
+  by-bit k t z = sym (mask-test (namesIn f so) k) ∙ ap (λ m. eqb (bitAnd m (knownBit k)) 0) (sym (o .bits)) ∙ z
 
   -- a line that fails judgement 2: it is malformed, or a field too many, or its known name came already
   bad-twice : (x : M.Field Span) (next : ℕ) → fieldLine i (drop i f) ≡ field x next → h .count < 32
-      → eqb (bitAnd (h .mask) (bitOf (knownOf (part f (x .name))))) 0 ≡ false → badHeader ≡ headerOf f (fieldsFrom f at)
+      → eqb (bitAnd (h .mask) (knownBit (knownOf (part f (x .name))))) 0 ≡ false → badHeader ≡ headerOf f (fieldsFrom f at)
   bad-twice x next q l z =
       let k = knownOf (part f (x .name)) in
       let came = not-false (isKnown k && among k (namesIn f so)) (by-bit k false z) in
@@ -77,7 +77,7 @@ module _ (f : List ℕ) (at : ℕ) (h : Header) (i : ℕ) (o : Onward f at h i) 
       ∙ answer _ (o .all ∙ lines-field f i x next q so (32 - h .count) (omega arith))
 
   bad-come : (x : M.Field Span) (next : ℕ) → fieldLine i (drop i f) ≡ field x next → (t : Bool) → ltb (h .count) 32 ≡ t
-      → (t && eqb (bitAnd (h .mask) (bitOf (knownOf (part f (x .name))))) 0) ≡ false → badHeader ≡ headerOf f (fieldsFrom f at)
+      → (t && eqb (bitAnd (h .mask) (knownBit (knownOf (part f (x .name))))) 0) ≡ false → badHeader ≡ headerOf f (fieldsFrom f at)
   bad-come x next q true l m = bad-twice x next q (ltb-true (h .count) 32 l) m
   bad-come x next q false l m =
       answer Lines.malformed (o .all ∙ lines-full f i x next q so (32 - h .count) (omega (arith, ltb-false (h .count) 32 l)))
@@ -101,7 +101,7 @@ module _ (f : List ℕ) (at : ℕ) (h : Header) (i : ℕ) (o : Onward f at h i) 
       comes = line-field (h .count) (h .mask) f (fieldLine i (drop i f)) x k next (sym e ∙ q)
 
       pub has-room : h .count < 32
-      has-room = ltb-true (h .count) 32 (both (ltb (h .count) 32) (eqb (bitAnd (h .mask) (bitOf k)) 0) (sym (comes .may)) .0)
+      has-room = ltb-true (h .count) 32 (both (ltb (h .count) 32) (eqb (bitAnd (h .mask) (knownBit k)) 0) (sym (comes .may)) .0)
 
       pub step-on : (b : ℕ) → b ≡ bitOf k → (j : ℕ) → j ≡ indexOf k
           → Onward f at (soFar (h .count + 1) (bitOr (h .mask) b) (set (h .which) j (h .count)) (set (h .fields) (h .count) x)) next
@@ -110,7 +110,7 @@ module _ (f : List ℕ) (at : ℕ) (h : Header) (i : ℕ) (o : Onward f at h i) 
           let more = gathered-more (h .count) (h .fields) x n in
           let names : namesIn f (gathered (h .count + 1) (set (h .fields) (h .count) x)) ≡ namesIn f so ++ k ∷ [] =
           ap (namesIn f) more ∙ names-append f so (asField x) [] ∙ ap (λ k. namesIn f so ++ k ∷ []) (sym (comes .with-name)) in
-          let clear = both (ltb (h .count) 32) (eqb (bitAnd (h .mask) (bitOf k)) 0) (sym (comes .may)) .1 in
+          let clear = both (ltb (h .count) 32) (eqb (bitAnd (h .mask) (knownBit k)) 0) (sym (comes .may)) .1 in
           let fresh = not-true (isKnown k && among k (namesIn f so)) (by-bit k true clear) in
           let left : 32 - h .count - 1 ≡ 32 - (h .count + 1) = omega arith in
           record {
@@ -153,15 +153,9 @@ module _ (f : List ℕ) (at : ℕ) (h : Header) (i : ℕ) (o : Onward f at h i) 
       go false = refl
 
   pub which-small : getD (h .which) 1 0 < 32
-  which-small = go (among ContentLength (namesIn f so)) refl
-    where
-      go : (t : Bool) → among ContentLength (namesIn f so) ≡ t → getD (h .which) 1 0 < 32
-      go true q =
-          let n = came f so (o .once) ContentLength refl q in
-          omega (arith, ap (λ w. getD w 1 0) (o .numbers), n .numbered, n .inside, length-map so (onField (part f)), so-length, o .few)
-      go false q =
-          let z : getD (h .which) 1 0 ≡ 0 = ap (λ w. getD w 1 0) (o .numbers) ∙ which-kept 0 (namesIn f so) (replicate 16 0) ContentLength q in
-          omega arith
+  which-small =
+      subst (λ w. getD w 1 0 < 32) (sym (o .numbers))
+      (which-below (namesIn f so) (omega (arith, names-length f so, so-length, o .few)) 1)
 
   module _ (r : Step) (e : r ≡ stepOf (h .count) (h .mask) f (fieldLine i (drop i f))) (b : ℕ) (q : r ≡ Step.End b) where
     abbrev body : Span

@@ -1,12 +1,12 @@
 -- The fields that the code hands back, in the terms of document 01.
 use Prim.Native.Nat.{ℕ, suc, _-_, _^_}
-use mathlib.Core.Bool.{Bool, true, false}
+use mathlib.Core.Bool.{true, false}
 use mathlib.Core.List.{List, [], _∷_, _++_, map}
 use lib.Bits.{bitOr}
 use lib.ListN.{length, set, replicate}
 use Rattle.message.specs.Message as M
 use Rattle.message.specs.Message.{Fields, bad, good, part, onField}
-use Rattle.message.specs.Known.{indexOf, isKnown, namesOf}
+use Rattle.message.specs.Known.{indexOf, namesOf}
 use Rattle.message.specs.declared.Span.{Span}
 use Rattle.message.specs.declared.Known.{Known}
 use Rattle.header.specs.declared.Field.{Field}
@@ -23,9 +23,9 @@ nowhere = record { start = 0; len = 0 }
 abbrev pub noField : Field
 noField = record { name = nowhere; value = nowhere }
 
--- a known name's bit; an unknown name has none
+-- a name's bit; bit 7 says that a field with another name came
 abbrev pub bitOf : Known → ℕ
-bitOf k = elim (isKnown k) [ true ↦ 2 ^ indexOf k | false ↦ 0 ]
+bitOf k = 2 ^ indexOf k
 
 -- the bits of these names, put to those of a mask
 abbrev pub maskWith : ℕ → List Known → ℕ

@@ -37,9 +37,13 @@ pub record ValueEnds (at : ℕ) (l : List ℕ) (r : Value) : Type 0 where
   pub end : r .end ≡ at + run isValue l
   pub last : r .last ≡ at + length (trimEnd (take (run isValue l) l))
 
+-- a known name's bit, none for another name
+abbrev pub knownBit : Known → ℕ
+knownBit k = bitAnd (bitOf k) 127
+
 -- after n fields there may be one more, and its name k, if it is known, did not come yet
 abbrev pub mayCome : ℕ → ℕ → Known → Bool
-mayCome n mask k = ltb n 32 && eqb (bitAnd mask (bitOf k)) 0
+mayCome n mask k = ltb n 32 && eqb (bitAnd mask (knownBit k)) 0
 
 -- a line of f, judged after n fields with the names in `mask`
 abbrev pub stepOf : ℕ → ℕ → List ℕ → F.Line → Step
@@ -58,9 +62,9 @@ statedOf v = elim (isNumber 19 v) [ true ↦ Stated.Number (numberOf v) | false 
 abbrev pub givenBy : ℕ → List ℕ → Option (List ℕ)
 givenBy mask v = elim (eqb (bitAnd mask 2) 0) [ true ↦ none | false ↦ some v ]
 
--- the number of the field with the name k, where it came
+-- the number of the field with the known name k, where it came
 abbrev pub foundBy : ℕ → List ℕ → Known → Found
-foundBy mask which k = elim (eqb (bitAnd mask (bitOf k)) 0) [ true ↦ Found.Nothing | false ↦ Found.At (getD which (indexOf k) 0) ]
+foundBy mask which k = elim (eqb (bitAnd mask (knownBit k)) 0) [ true ↦ Found.Nothing | false ↦ Found.At (getD which (indexOf k) 0) ]
 
 -- the value of that field in f, where there is one
 abbrev pub valueAt : List ℕ → List Field → Found → Option (List ℕ)

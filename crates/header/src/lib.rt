@@ -1,9 +1,10 @@
 // Field lines, known names and the body: document 01, "Fields" and judgement 2.
 ghost use mathlib.Core.Path.{_≡_};
-ghost use Prim.Native.Nat.{_+_};
+ghost use mathlib.Core.Bool.{Bool};
+ghost use Prim.Native.Nat.{ℕ, _+_};
 ghost use lib.ListN.{drop};
-ghost use Rattle.lists.specs.Lists.{run, same};
-ghost use Rattle.octets.specs.Octets.{isName, isValue, isBlank, lower, classes};
+ghost use Rattle.lists.specs.Lists.{run};
+ghost use Rattle.octets.specs.Octets.{classes, Stands};
 ghost use Rattle.message.specs.Message.{part as partOf};
 ghost use Rattle.message.specs.Fields.{fieldLine};
 ghost use Rattle.message.specs.Known.{orElse, knownOf, indexOf};
@@ -18,7 +19,7 @@ pub struct Field {
     pub value: message::Span,
 }
 
-// What stands after the start line. Where judgement 2 passes it: the first `count` of `fields`, the known names that came as bits of `mask`, the
+// What stands after the start line. Where judgement 2 passes it: the first `count` of `fields`, the names that came as bits of `mask`, the
 // number of the field that each of them is, and the body. Else all is zero.
 pub struct Header {
     pub good: bool,
@@ -29,31 +30,15 @@ pub struct Header {
     pub fields: [Field; 32],
 }
 
-// The end of the name bytes at `at`.
-fn name_end(f: &[u8], class: &[u8; 256], at: usize) -> usize
+// The end of the bytes of a class at `at`.
+fn class_end(f: &[u8], class: &[u8; 256], at: usize, kind: u8) -> usize
     requires { ⌜ now class ≡ classes ⌝ }
-    ensures { λ r. ⌜ r ≡ at + run isName (drop at (now (f .entry))) ⌝ }
+    ensures { λ r. ⌜ ((test : ℕ → Bool) → Stands kind test → r ≡ at + run test (drop at (now (f .entry)))) ⌝ }
 {
     let mut i = at;
     while i < f.len() {
         let b = f[i];
-        if class[b as usize] & octets::NAME == 0 {
-            return i;
-        }
-        i += 1;
-    }
-    i
-}
-
-// The end of the blanks at `at`.
-fn blank_end(f: &[u8], class: &[u8; 256], at: usize) -> usize
-    requires { ⌜ now class ≡ classes ⌝ }
-    ensures { λ r. ⌜ r ≡ at + run isBlank (drop at (now (f .entry))) ⌝ }
-{
-    let mut i = at;
-    while i < f.len() {
-        let b = f[i];
-        if class[b as usize] & octets::BLANK == 0 {
+        if class[b as usize] & kind == 0 {
             return i;
         }
         i += 1;
@@ -99,7 +84,7 @@ fn field_line(f: &[u8], class: &[u8; 256], at: usize) -> Line
     requires { ⌜ now class ≡ classes ⌝ }
     ensures { λ r. ⌜ r ≡ lineOf (fieldLine at (drop at (now (f .entry)))) ⌝ }
 {
-    let n = name_end(f, class, at);
+    let n = class_end(f, class, at, octets::NAME);
     if n == at {
         if readers::crlf(f, at) {
             return Line::Empty(at + 2);
@@ -112,7 +97,7 @@ fn field_line(f: &[u8], class: &[u8; 256], at: usize) -> Line
     if !readers::has(f, n, 58) {
         return Line::Malformed;
     }
-    let v = blank_end(f, class, n + 1);
+    let v = class_end(f, class, n + 1, octets::BLANK);
     let w = value_end(f, class, v);
     let end = w.end;
     if !readers::crlf(f, end) {
@@ -129,28 +114,6 @@ fn field_line(f: &[u8], class: &[u8; 256], at: usize) -> Line
     Line::Field(Field { name, value }, end + 2)
 }
 
-// The bytes of `n`, capitals as small letters, are those of `t`, which has no capitals: most bytes are equal as they are.
-fn alike(n: &[u8], t: &[u8]) -> bool
-    requires { ⌜ lower (now t) ≡ now t ⌝ }
-    ensures { λ r. ⌜ r ≡ same (lower (now (n .entry))) (now (t .entry)) ⌝ }
-{
-    if n.len() != t.len() {
-        return false;
-    }
-    let mut i = 0;
-    while i < n.len() {
-        let b = n[i];
-        let small = t[i];
-        if b != small {
-            if octets::lowered(b) != small {
-                return false;
-            }
-        }
-        i += 1;
-    }
-    true
-}
-
 // The name `k`, where the comparison with it held.
 fn or_unknown(same: bool, k: message::Known) -> message::Known
     ensures { λ r. ⌜ r ≡ orElse same k Unknown ⌝ }
@@ -158,41 +121,73 @@ fn or_unknown(same: bool, k: message::Known) -> message::Known
     if same { k } else { message::Known::Unknown }
 }
 
-// Which known name `n` is: no two of them are equally long.
+// Which known name `n` is: no two of them are equally long. In the usual spelling most bytes are equal as they are.
 pub fn known(n: &[u8]) -> message::Known
     ensures { λ r. ⌜ r ≡ knownOf (now (n .entry)) ⌝ }
 {
     match n.len() {
-        11 => or_unknown(alike(n, b"logging-tag"), message::Known::LoggingTag),
-        12 => or_unknown(alike(n, b"content-type"), message::Known::ContentType),
-        13 => or_unknown(alike(n, b"proxy-sync-id"), message::Known::ProxySyncId),
-        14 => or_unknown(alike(n, b"content-length"), message::Known::ContentLength),
-        16 => or_unknown(alike(n, b"kill-on-barge-in"), message::Known::KillOnBargeIn),
+        11 => or_unknown(octets::alike(n, b"Logging-Tag"), message::Known::LoggingTag),
+        12 => or_unknown(
+            octets::alike(n, b"Content-Type"),
+            message::Known::ContentType,
+        ),
+        13 => or_unknown(
+            octets::alike(n, b"Proxy-Sync-Id"),
+            message::Known::ProxySyncId,
+        ),
+        14 => or_unknown(
+            octets::alike(n, b"Content-Length"),
+            message::Known::ContentLength,
+        ),
+        16 => or_unknown(
+            octets::alike(n, b"Kill-On-Barge-In"),
+            message::Known::KillOnBargeIn,
+        ),
         18 => or_unknown(
-            alike(n, b"channel-identifier"),
+            octets::alike(n, b"Channel-Identifier"),
             message::Known::ChannelIdentifier,
         ),
         22 => or_unknown(
-            alike(n, b"active-request-id-list"),
+            octets::alike(n, b"Active-Request-Id-List"),
             message::Known::ActiveRequestIdList,
         ),
         _ => message::Known::Unknown,
     }
 }
 
-// A known name's bit in the mask, and its number; an unknown name has no bit.
+// The names' bits in the mask; the last one says that a field with another name came.
+pub const CHANNEL_IDENTIFIER: u16 = 1;
+
+pub const CONTENT_LENGTH: u16 = 2;
+
+pub const CONTENT_TYPE: u16 = 4;
+
+pub const ACTIVE_REQUEST_ID_LIST: u16 = 8;
+
+pub const KILL_ON_BARGE_IN: u16 = 16;
+
+pub const PROXY_SYNC_ID: u16 = 32;
+
+pub const LOGGING_TAG: u16 = 64;
+
+pub const OTHER_NAME: u16 = 128;
+
+// The known ones together.
+const KNOWN_NAMES: u16 = 127;
+
+// A name's bit in the mask, and its number.
 fn bit(k: message::Known) -> u16
     ensures { λ r. ⌜ r ≡ bitOf k ⌝ }
 {
     match k {
-        message::Known::ChannelIdentifier => 1,
-        message::Known::ContentLength => 2,
-        message::Known::ContentType => 4,
-        message::Known::ActiveRequestIdList => 8,
-        message::Known::KillOnBargeIn => 16,
-        message::Known::ProxySyncId => 32,
-        message::Known::LoggingTag => 64,
-        message::Known::Unknown => 0,
+        message::Known::ChannelIdentifier => CHANNEL_IDENTIFIER,
+        message::Known::ContentLength => CONTENT_LENGTH,
+        message::Known::ContentType => CONTENT_TYPE,
+        message::Known::ActiveRequestIdList => ACTIVE_REQUEST_ID_LIST,
+        message::Known::KillOnBargeIn => KILL_ON_BARGE_IN,
+        message::Known::ProxySyncId => PROXY_SYNC_ID,
+        message::Known::LoggingTag => LOGGING_TAG,
+        message::Known::Unknown => OTHER_NAME,
     }
 }
 
@@ -240,11 +235,11 @@ fn number(v: &[u8]) -> Stated
     Stated::Number(n)
 }
 
-// Content-Length, which is the field `x` where its bit, 2, is set, agrees with the `left` bytes of the body.
+// Content-Length, which is the field `x` where its bit is set, agrees with the `left` bytes of the body.
 fn agrees(f: &[u8], mask: u16, x: Field, left: usize) -> bool
     ensures { λ r. ⌜ r ≡ agreesOf (givenBy mask (partOf (now (f .entry)) (x .value))) left ⌝ }
 {
-    if mask & 2 == 0 {
+    if mask & CONTENT_LENGTH == 0 {
         return 0 == left;
     }
     let value = x.value;
@@ -268,7 +263,7 @@ fn may_come(count: usize, mask: u16, k: message::Known) -> bool
     ensures { λ r. ⌜ r ≡ mayCome count mask k ⌝ }
 {
     if count < 32 {
-        mask & bit(k) == 0
+        mask & (bit(k) & KNOWN_NAMES) == 0
     } else {
         false
     }
@@ -390,7 +385,7 @@ pub enum Found {
 pub fn lookup(mask: u16, which: [usize; 16], k: message::Known) -> Found
     ensures { λ r. ⌜ r ≡ foundBy mask which k ⌝ }
 {
-    let b = bit(k);
+    let b = bit(k) & KNOWN_NAMES;
     if mask & b == 0 {
         return Found::Nothing;
     }

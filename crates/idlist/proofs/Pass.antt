@@ -16,41 +16,18 @@ use Rattle.lists.specs.Lists.{all}
 use Rattle.lists.proofs.Scans.{all-append}
 use Rattle.octets.specs.Octets.{isDigit}
 use Rattle.readers.specs.Words.{words, onto, numberOf, isRequestId}
-use Rattle.readers.proofs.Words.{decimal-append}
+use Rattle.readers.proofs.Words.{begun, begun-onto, begun-none, decimal-append}
 use Rattle.answer.specs.IdList.{isIdList, idsOf}
 use Rattle.idlist.specs.Named.{bitsFrom, inRange, namedIn}
 use Rattle.idlist.specs.declared.Which.{Which}
 use Rattle.idlist.specs.declared.Which.the-variants.{Illegal, Those}
 use Rattle.idlist.proofs.Marks.{none-named, or-bits}
 
--- ---- the words of a value whose first word began with w
-
-abbrev begun : List ℕ → List (List ℕ) → List (List ℕ)
-begun w [] = w ∷ []
-begun w (u ∷ us) = (w ++ u) ∷ us
-
-begun-onto : (w : List ℕ) (x : ℕ) (ws : List (List ℕ)) → begun w (onto x ws) ≡ begun (w ++ x ∷ []) ws
-begun-onto w x [] = refl
-begun-onto w x (u ∷ us) = ap (λ l. l ∷ us) (sym (append-assoc w (x ∷ []) u))
-
--- there is always a word
-onto-some : (x : ℕ) (ws : List (List ℕ)) → begun [] (onto x ws) ≡ onto x ws
-onto-some x [] = refl
-onto-some x (u ∷ us) = refl
-
-begun-none : (s : List ℕ) → begun [] (words 44 s) ≡ words 44 s
-begun-none [] = refl
-begun-none (x ∷ s) = go (eqb x 44)
-  where
-    go : (b : Bool) → begun [] (elim b [ true ↦ [] ∷ words 44 s | false ↦ onto x (words 44 s) ]) ≡ elim b [ true ↦ [] ∷ words 44 s | false ↦ onto x (words 44 s) ]
-    go true = refl
-    go false = onto-some x (words 44 s)
+-- ---- when a word is an id
 
 first-wrong : (w : List ℕ) (ws : List (List ℕ)) → ((u : List ℕ) → isRequestId (w ++ u) ≡ false) → all isRequestId (begun w ws) ≡ false
 first-wrong w [] f = rw (ap isRequestId (sym (append-nil w)) ∙ f [])
 first-wrong w (u ∷ us) f = rw (f u)
-
--- ---- when a word is an id
 
 not-all : (w u : List ℕ) (x : ℕ) → isDigit x ≡ false → all isDigit (w ++ x ∷ u) ≡ false
 not-all [] u x e = rw e
@@ -111,7 +88,7 @@ module _ (ids : List ℕ) where
   comma l w s true e more =
       ap (λ b. left b 0 0 s) (or-bits l (numberOf w ∷ []) (take 64 ids))
       ∙ more
-      ∙ ap (outcome (l ++ numberOf w ∷ [])) (begun-none s)
+      ∙ ap (outcome (l ++ numberOf w ∷ [])) (begun-none 44 s)
       ∙ word l w (words 44 s) e
   comma l w s false e more = wrong l (w ∷ words 44 s) (rw e)
 
@@ -165,7 +142,7 @@ module _ (ids : List ℕ) where
   whole : (v : List ℕ) → left 0 0 0 v ≡ namedIn v ids
   unfolding namedIn isIdList idsOf
   whole v =
-      ap (λ b. left b 0 0 v) (sym (none-named (take 64 ids))) ∙ pass v [] [] refl (omega arith) ∙ ap (outcome []) (begun-none v)
+      ap (λ b. left b 0 0 v) (sym (none-named (take 64 ids))) ∙ pass v [] [] refl (omega arith) ∙ ap (outcome []) (begun-none 44 v)
 
 -- ---- each way that the code goes
 

@@ -3,3 +3,4 @@ pub mod Scans
 pub mod Membership
 pub mod Rising
 pub mod Dealing
+pub mod Masks

@@ -4,15 +4,10 @@ use mathlib.Core.Bool.{Bool, true, false, _&&_, _||_, not}
 use mathlib.Core.Option.{Option, none, some}
 use mathlib.Core.List.{List, [], _∷_, map}
 use lib.Dec.{eqb}
-use Rattle.lists.specs.Lists.{same}
-use Rattle.octets.specs.Octets.{bytes, lower}
+use Rattle.octets.specs.Octets.{bytes, alike}
 use Rattle.message.specs.Message.{Field}
 use Rattle.message.specs.declared.Known.{Known}
 use Rattle.message.specs.declared.Known.the-variants.{ChannelIdentifier, ContentLength, ContentType, ActiveRequestIdList, KillOnBargeIn, ProxySyncId, LoggingTag, Unknown}
-
--- the same but for the case of letters
-abbrev pub alike : List ℕ → List ℕ → Bool
-alike a b = same (lower a) (lower b)
 
 abbrev pub orElse : Bool → Known → Known → Known
 orElse true k other = k

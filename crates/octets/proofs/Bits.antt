@@ -6,7 +6,7 @@ use native.Mathlib.Nat.{add-zero, zero-add, add-suc, suc-add, le-of-suc-le-suc, 
 use lib.Bits.{bitAnd}
 use lib.Dec.{eqb}
 use lib.ListN.{getD}
-use Rattle.octets.specs.Octets.{from, classes, classOf, isDigit, isCapital, isName, isValue, isBlank}
+use Rattle.octets.specs.Octets.{from, classes, classOf, isDigit, isCapital, isName, isValue, isBlank, Stands}
 
 module _ {A : Type 0} (f : ℕ → A) (d : A) where
   at-from : (n i k : ℕ) → k < n → getD (from f i n) k d ≡ f (i + k)
@@ -24,26 +24,24 @@ agree f g d n e k h = sym (entry f d n k h) ∙ ap (λ t. getD t k d) e ∙ entr
 pub class-at : (b : ℕ) → b < 256 → getD classes b 0 ≡ classOf b
 class-at b h = entry classOf 0 256 b h
 
--- the byte's class in the table has one of these bits
-abbrev pub has : ℕ → ℕ → Bool
-has bits b = not (eqb (bitAnd (getD classes b 0) bits) 0)
-
-by-class : (bits : ℕ) (test : ℕ → Bool) → from (λ b. not (eqb (bitAnd (classOf b) bits) 0)) 0 256 ≡ from test 0 256 → (b : ℕ) → b < 256 → has bits b ≡ test b
-by-class bits test e b h =
-    ap (λ (x : ℕ). not (eqb (bitAnd x bits) 0)) (class-at b h) ∙ agree (λ b. not (eqb (bitAnd (classOf b) bits) 0)) test false 256 e b h
+-- by one computation over all 256
+by-class : (bits : ℕ) (test : ℕ → Bool) → from (λ b. not (eqb (bitAnd (classOf b) bits) 0)) 0 256 ≡ from test 0 256 → Stands bits test
+by-class bits test e = record {
+  law = λ b h. ap (λ (x : ℕ). not (eqb (bitAnd x bits) 0)) (class-at b h) ∙ agree (λ b. not (eqb (bitAnd (classOf b) bits) 0)) test false 256 e b h;
+}
 
 -- each bit means what its name says
-pub digit-bit : (b : ℕ) → b < 256 → has 1 b ≡ isDigit b
+pub digit-bit : Stands 1 isDigit
 digit-bit = by-class 1 isDigit refl
 
-pub capital-bit : (b : ℕ) → b < 256 → has 2 b ≡ isCapital b
+pub capital-bit : Stands 2 isCapital
 capital-bit = by-class 2 isCapital refl
 
-pub name-bit : (b : ℕ) → b < 256 → has 4 b ≡ isName b
+pub name-bit : Stands 4 isName
 name-bit = by-class 4 isName refl
 
-pub value-bit : (b : ℕ) → b < 256 → has 8 b ≡ isValue b
+pub value-bit : Stands 8 isValue
 value-bit = by-class 8 isValue refl
 
-pub blank-bit : (b : ℕ) → b < 256 → has 16 b ≡ isBlank b
+pub blank-bit : Stands 16 isBlank
 blank-bit = by-class 16 isBlank refl

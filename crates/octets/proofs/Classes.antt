@@ -1,10 +1,10 @@
 -- Digits and letters by comparison. Assumes nothing.
-use mathlib.Core.Path.{_≡_, refl, sym}
-use mathlib.Core.Bool.{true, false, _&&_, and-false}
+use mathlib.Core.Path.{_≡_}
+use mathlib.Core.Bool.{false, and-false}
 use Prim.Native.Nat.{ℕ, _+_, _≤_, _<_}
 use lib.Dec.{leb}
 use borrow.Author.Tests.{le-leb, lt-leb}
-use Rattle.octets.specs.Octets.{isDigit, isCapital, lowered}
+use Rattle.octets.specs.Octets.{isDigit, lowered}
 
 pub digit-not : (b : ℕ) → b < 48 → false ≡ isDigit b
 digit-not b h = rw (lt-leb 48 b h)

@@ -1,11 +1,15 @@
 -- What each of the 256 bytes may be (document 01, "Fields"), letters without case, and an ASCII text as its bytes.
-use Prim.Native.Nat.{ℕ, zero, suc, _+_}
+use Prim.Native.Nat.{ℕ, zero, suc, _+_, _<_}
 use Prim.Native.Char.{code}
 use Prim.Native.String.{String}
 use Prim.Native.String as Str
-use mathlib.Core.Bool.{Bool, true, false, _&&_, _||_, cond}
+use mathlib.Core.Path.{_≡_}
+use mathlib.Core.Bool.{Bool, true, false, _&&_, _||_, cond, not}
 use mathlib.Core.List.{List, [], _∷_, map}
+use lib.Bits.{bitAnd}
 use lib.Dec.{leb, eqb}
+use lib.ListN.{getD}
+use Rattle.lists.specs.Lists.{same}
 
 -- an ASCII text, as bytes
 abbrev pub bytes : String → List ℕ
@@ -54,6 +58,10 @@ lowered b = elim (isCapital b) [ true ↦ b + 32 | false ↦ b ]
 abbrev pub lower : List ℕ → List ℕ
 lower l = map lowered l
 
+-- the same but for the case of letters
+abbrev pub alike : List ℕ → List ℕ → Bool
+alike a b = same (lower a) (lower b)
+
 abbrev pub from {ℓ} : {A : Type ℓ} → (ℕ → A) → ℕ → ℕ → List A
 from f i zero = []
 from f i (suc n) = f i ∷ from f (suc i) n
@@ -61,3 +69,7 @@ from f i (suc n) = f i ∷ from f (suc i) n
 -- the table of 256 byte classes
 abbrev pub classes : List ℕ
 classes = from classOf 0 256
+
+-- bits that stand for a test: a byte has one of them in the table exactly where the test holds
+pub record Stands (bits : ℕ) (test : ℕ → Bool) : Type 0 where
+  pub law : (b : ℕ) → b < 256 → not (eqb (bitAnd (getD classes b 0) bits) 0) ≡ test b

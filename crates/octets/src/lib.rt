@@ -1,6 +1,7 @@
 // What a byte may be: document 01, "Fields".
 ghost use mathlib.Core.Path.{_≡_};
-ghost use Rattle.octets.specs.Octets.{isDigit, lowered as loweredOf, classes};
+ghost use Rattle.lists.specs.Lists.{same};
+ghost use Rattle.octets.specs.Octets.{isDigit, lowered as loweredOf, alike as alikeOf, classes};
 
 // The bits of a byte's class.
 pub const DIGIT: u8 = 1;
@@ -300,4 +301,41 @@ pub fn lowered(b: u8) -> u8
         return b;
     }
     b + 32
+}
+
+pub fn equal(a: &[u8], b: &[u8]) -> bool
+    ensures { λ r. ⌜ r ≡ same (now (a .entry)) (now (b .entry)) ⌝ }
+{
+    if a.len() != b.len() {
+        return false;
+    }
+    let mut i: usize = 0;
+    while i < a.len() {
+        if a[i] != b[i] {
+            return false;
+        }
+        i += 1;
+    }
+    true
+}
+
+// Equal but for the case of letters. Bytes that are equal as they are need no small letters.
+pub fn alike(a: &[u8], b: &[u8]) -> bool
+    ensures { λ r. ⌜ r ≡ alikeOf (now (a .entry)) (now (b .entry)) ⌝ }
+{
+    if a.len() != b.len() {
+        return false;
+    }
+    let mut i: usize = 0;
+    while i < a.len() {
+        let x = a[i];
+        let y = b[i];
+        if x != y {
+            if lowered(x) != lowered(y) {
+                return false;
+            }
+        }
+        i += 1;
+    }
+    true
 }

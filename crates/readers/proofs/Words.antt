@@ -1,9 +1,10 @@
--- Words and lines that were joined come apart again: a line before its CRLF, words between separators, numbers. Assumes nothing.
+-- Words and lines that were joined come apart again: a line before its CRLF, words between separators, also where the first one has begun, numbers.
+-- Assumes nothing.
 use Prim.Native.Nat.{ℕ, _+_, _-_, _*_, _≤_}
 use mathlib.Core.Path.{_≡_, refl, sym, ap, _∙_}
 use mathlib.Core.Bool.{Bool, true, false, not, false≢true}
 use mathlib.Core.Option.{some}
-use mathlib.Core.List.{List, [], _∷_, _++_}
+use mathlib.Core.List.{List, [], _∷_, _++_, append-assoc}
 use lib.Dec.{eqb}
 use lib.ListN.{length}
 use borrow.Author.Tests.{eq-eqb, ne-eqb, le-leb, not-true}
@@ -44,6 +45,28 @@ words-more b [] v a = rw (eq-eqb b b refl, words)
 words-more b (x ∷ w) v a =
     let h = both (not (eqb x b)) (lacks b w) a in
     rw (not-true (eqb x b) (h .0), words) (ap (onto x) (words-more b w v (h .1)))
+
+-- words whose first one began with w
+abbrev pub begun : List ℕ → List (List ℕ) → List (List ℕ)
+begun w [] = w ∷ []
+begun w (u ∷ us) = (w ++ u) ∷ us
+
+pub begun-onto : (w : List ℕ) (x : ℕ) (ws : List (List ℕ)) → begun w (onto x ws) ≡ begun (w ++ x ∷ []) ws
+begun-onto w x [] = refl
+begun-onto w x (u ∷ us) = ap (λ l. l ∷ us) (sym (append-assoc w (x ∷ []) u))
+
+onto-some : (x : ℕ) (ws : List (List ℕ)) → begun [] (onto x ws) ≡ onto x ws
+onto-some x [] = refl
+onto-some x (u ∷ us) = refl
+
+-- there is always a word
+pub begun-none : (b : ℕ) (s : List ℕ) → begun [] (words b s) ≡ words b s
+begun-none b [] = refl
+begun-none b (x ∷ s) = go (eqb x b)
+  where
+    go : (t : Bool) → begun [] (elim t [ true ↦ [] ∷ words b s | false ↦ onto x (words b s) ]) ≡ elim t [ true ↦ [] ∷ words b s | false ↦ onto x (words b s) ]
+    go true = refl
+    go false = onto-some x (words b s)
 
 pub decimal-append : (v : ℕ) (l m : List ℕ) → decimal v (l ++ m) ≡ decimal (decimal v l) m
 decimal-append v [] m = refl

@@ -51,13 +51,13 @@ fn text_within(s: &[u8], at: usize, t: &[u8]) -> Place
     ensures { λ r. ⌜ r ≡ placed at (textOf (now (t .entry)) (drop at (now (s .entry)))) ⌝ }
 {
     let mut i = at;
-    let mut k = 0;
-    while k < t.len() {
-        if t[k] != s[i] {
+    let mut j = 0;
+    while j < t.len() {
+        if t[j] != s[i] {
             return Place::Wrong;
         }
         i += 1;
-        k += 1;
+        j += 1;
     }
     Place::At(i)
 }

@@ -6,8 +6,7 @@ use mathlib.Core.List.{List}
 use lib.Dec.{eqb, leb, ltb}
 use lib.ListN.{length}
 use Rattle.lists.specs.Lists.{same, isEmpty}
-use Rattle.octets.specs.Octets.{bytes}
-use Rattle.message.specs.Known.{alike}
+use Rattle.octets.specs.Octets.{bytes, alike}
 use Rattle.message.specs.Reading.{bodyIn}
 use Rattle.message.specs.declared.Known.the-variants.{ChannelIdentifier, ContentLength, ContentType, ActiveRequestIdList, KillOnBargeIn}
 use Rattle.answer.specs.IdList.{isIdList}

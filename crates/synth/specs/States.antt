@@ -4,9 +4,8 @@ use mathlib.Core.Bool.{Bool, true, false, not}
 use mathlib.Core.Option.{Option, none, some}
 use mathlib.Core.List.{List, [], _∷_, _++_}
 use Rattle.lists.specs.Lists.{elem, keep}
-use Rattle.octets.specs.Octets.{bytes}
+use Rattle.octets.specs.Octets.{bytes, alike}
 use Rattle.message.specs.Message.{Message}
-use Rattle.message.specs.Known.{alike}
 use Rattle.message.specs.declared.Known.the-variants.{ActiveRequestIdList, KillOnBargeIn}
 use Rattle.message.specs.declared.RequestState.{RequestState}
 use Rattle.message.specs.declared.RequestState.the-variants.{Pending, InProgress, Complete}

@@ -1,9 +1,7 @@
 -- Numbers written into a lent buffer.
 use mathlib.Core.Path.{_≡_}
 use Prim.Native.Nat.{ℕ, _+_, _≤_}
-use mathlib.Core.Bool.{true, false}
 use mathlib.Core.List.{List, _++_}
-use lib.Dec.{leb}
 use lib.ListN.{length, take, drop}
 
 -- out with bs in place of as many from `at` on

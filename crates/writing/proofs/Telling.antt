@@ -2,19 +2,19 @@
 use mathlib.Core.Path.{_≡_, refl, sym, ap, _∙_}
 use mathlib.Core.Bool.{Bool, true, false}
 use mathlib.Core.List.{List, _++_}
-use Prim.Native.Nat.{ℕ, zero, suc}
+use Prim.Native.Nat.{ℕ}
 use lib.Dec.{ltb}
 use lib.ListN.{length, drop, set}
 use Rattle.message.specs.declared.RequestState.{RequestState}
 use Rattle.answer.specs.Written as W
 use Rattle.answer.specs.Answers.{response, speakComplete}
-use Rattle.answer.specs.Delivery.{counted, delivered, causeNumber}
+use Rattle.answer.specs.Delivery.{counted, delivered, causeNumber, causeAt}
 use Rattle.answer.specs.declared.Cause.{Cause}
 use Rattle.answer.specs.declared.Status.{Status}
 use Rattle.answer.specs.declared.Answer.{Answer}
 use Rattle.answer.specs.declared.Written.{Written}
-use Rattle.writing.specs.Writing.{WriteCall, wrote, Told, told, causeAt, wroteEvent}
-use Rattle.writing.specs.declared.Given.{Given}
+use Rattle.writing.specs.Writing.{WriteCall, wrote, Told, told, wroteEvent}
+use Rattle.answer.specs.declared.Reported.{Reported}
 
 -- w and o are what the writer of bs returned and left; t is what is told of w
 pub tells : (bs place out : List ℕ) (w : Written) (o : List ℕ) (t : Told) → w ≡ counted bs out → o ≡ delivered bs out → t ≡ told w place
@@ -55,25 +55,13 @@ module _ (name ids place out : List ℕ) (id : ℕ) (s : Status) (st : RequestSt
       → record { number = t .number; written = t .written; out = o } ≡ wrote (W.written (response name id (s .code) st ids)) place out
   answered w o t p q r = tells _ place out w o t (p ∙ ap (λ (l : List ℕ). counted l out) text) (q ∙ ap (λ (l : List ℕ). delivered l out) text) r
 
--- a number that is none of 0 to 7 has no cause
-pub no-cause : (n : ℕ) → (n ≡ 0 → ⊥) → (n ≡ 1 → ⊥) → (n ≡ 2 → ⊥) → (n ≡ 3 → ⊥) → (n ≡ 4 → ⊥) → (n ≡ 5 → ⊥) → (n ≡ 6 → ⊥) → (n ≡ 7 → ⊥) → Given.NoCause ≡ causeAt n
-no-cause zero h0 h1 h2 h3 h4 h5 h6 h7 = absurd (h0 refl)
-no-cause (suc zero) h0 h1 h2 h3 h4 h5 h6 h7 = absurd (h1 refl)
-no-cause (suc (suc zero)) h0 h1 h2 h3 h4 h5 h6 h7 = absurd (h2 refl)
-no-cause (suc (suc (suc zero))) h0 h1 h2 h3 h4 h5 h6 h7 = absurd (h3 refl)
-no-cause (suc (suc (suc (suc zero)))) h0 h1 h2 h3 h4 h5 h6 h7 = absurd (h4 refl)
-no-cause (suc (suc (suc (suc (suc zero))))) h0 h1 h2 h3 h4 h5 h6 h7 = absurd (h5 refl)
-no-cause (suc (suc (suc (suc (suc (suc zero)))))) h0 h1 h2 h3 h4 h5 h6 h7 = absurd (h6 refl)
-no-cause (suc (suc (suc (suc (suc (suc (suc zero))))))) h0 h1 h2 h3 h4 h5 h6 h7 = absurd (h7 refl)
-no-cause (suc (suc (suc (suc (suc (suc (suc (suc n)))))))) h0 h1 h2 h3 h4 h5 h6 h7 = refl
+module _ (name place out : List ℕ) (id n : ℕ) (g : Reported) (p : g ≡ causeAt n) where
+  pub cause-refused : g ≡ Reported.NoCause → record { number = 9; written = set place 0 0; out = out } ≡ wroteEvent name id (causeAt n) place out
+  cause-refused q = ap (λ (x : Reported). wroteEvent name id x place out) (sym q ∙ p)
 
-module _ (name place out : List ℕ) (id n : ℕ) (g : Given) (p : g ≡ causeAt n) where
-  pub cause-refused : g ≡ Given.NoCause → record { number = 9; written = set place 0 0; out = out } ≡ wroteEvent name id (causeAt n) place out
-  cause-refused q = ap (λ (x : Given). wroteEvent name id x place out) (sym q ∙ p)
-
-  pub completed : (c : Cause) → g ≡ Given.Cause c → (w : Written) (o : List ℕ) (t : Told)
+  pub completed : (c : Cause) → g ≡ Reported.Cause c → (w : Written) (o : List ℕ) (t : Told)
       → w ≡ counted (W.written (speakComplete name id (causeNumber c))) out
       → o ≡ delivered (W.written (speakComplete name id (causeNumber c))) out
       → t ≡ told w place
       → record { number = t .number; written = t .written; out = o } ≡ wroteEvent name id (causeAt n) place out
-  completed c q w o t e f r = tells _ place out w o t e f r ∙ ap (λ (x : Given). wroteEvent name id x place out) (sym q ∙ p)
+  completed c q w o t e f r = tells _ place out w o t e f r ∙ ap (λ (x : Reported). wroteEvent name id x place out) (sym q ∙ p)

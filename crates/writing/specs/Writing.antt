@@ -1,5 +1,5 @@
 -- What a call that writes one message hands back: document 01, refusal 7.
-use Prim.Native.Nat.{ℕ, zero, suc}
+use Prim.Native.Nat.{ℕ}
 use mathlib.Core.Bool.{true, false}
 use mathlib.Core.List.{List, _++_}
 use lib.Dec.{ltb}
@@ -7,9 +7,8 @@ use lib.ListN.{length, drop, set}
 use Rattle.answer.specs.Written as W
 use Rattle.answer.specs.Answers.{speakComplete}
 use Rattle.answer.specs.Delivery.{causeNumber}
-use Rattle.answer.specs.declared.Cause.{Cause}
 use Rattle.answer.specs.declared.Written.{Written}
-use Rattle.writing.specs.declared.Given.{Given}
+use Rattle.answer.specs.declared.Reported.{Reported}
 
 -- a call's number, the place lent for the count written, and the lent output, as it leaves them
 pub record WriteCall : Type 0 where
@@ -33,19 +32,7 @@ abbrev pub told : Written → List ℕ → Told
 told (Written.Count n) place = record { number = 0; written = set place 0 n }
 told Written.TooLong place = record { number = 7; written = set place 0 0 }
 
--- the cause with a number, 0 to 7
-abbrev pub causeAt : ℕ → Given
-causeAt zero = Given.Cause Cause.Normal
-causeAt (suc zero) = Given.Cause Cause.BargeIn
-causeAt (suc (suc zero)) = Given.Cause Cause.ParseFailure
-causeAt (suc (suc (suc zero))) = Given.Cause Cause.UriFailure
-causeAt (suc (suc (suc (suc zero)))) = Given.Cause Cause.Error
-causeAt (suc (suc (suc (suc (suc zero))))) = Given.Cause Cause.LanguageUnsupported
-causeAt (suc (suc (suc (suc (suc (suc zero)))))) = Given.Cause Cause.LexiconLoadFailure
-causeAt (suc (suc (suc (suc (suc (suc (suc zero))))))) = Given.Cause Cause.Cancelled
-causeAt (suc (suc (suc (suc (suc (suc (suc (suc n)))))))) = Given.NoCause
-
 -- the event that ends request id; 9 where there is no such cause
-abbrev pub wroteEvent : List ℕ → ℕ → Given → List ℕ → List ℕ → WriteCall
-wroteEvent name id Given.NoCause place out = record { number = 9; written = set place 0 0; out = out }
-wroteEvent name id (Given.Cause c) place out = wrote (W.written (speakComplete name id (causeNumber c))) place out
+abbrev pub wroteEvent : List ℕ → ℕ → Reported → List ℕ → List ℕ → WriteCall
+wroteEvent name id Reported.NoCause place out = record { number = 9; written = set place 0 0; out = out }
+wroteEvent name id (Reported.Cause c) place out = wrote (W.written (speakComplete name id (causeNumber c))) place out

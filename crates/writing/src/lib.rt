@@ -3,8 +3,9 @@
 ghost use mathlib.Core.Path.{_≡_};
 ghost use Rattle.answer.specs.Written.{written as writtenOf};
 ghost use Rattle.answer.specs.Answers.{response};
+ghost use Rattle.answer.specs.Delivery.{causeAt};
 ghost use Rattle.message.specs.declared.RequestState.{RequestState};
-ghost use Rattle.writing.specs.Writing.{wrote, told, causeAt, wroteEvent};
+ghost use Rattle.writing.specs.Writing.{wrote, told, wroteEvent};
 
 // The number and the count of a write.
 fn tell(w: answer::Written, written: &mut [u64; 1]) -> u32
@@ -76,28 +77,6 @@ pub extern "C" fn klarvesimo_write_complete(
     tell(w, written)
 }
 
-// The cause with a number, or that there is none.
-enum Given {
-    NoCause,
-    Cause(answer::Cause),
-}
-
-fn cause_given(n: u32) -> Given
-    ensures { λ r. ⌜ r ≡ causeAt n ⌝ }
-{
-    match n {
-        0 => Given::Cause(answer::Cause::Normal),
-        1 => Given::Cause(answer::Cause::BargeIn),
-        2 => Given::Cause(answer::Cause::ParseFailure),
-        3 => Given::Cause(answer::Cause::UriFailure),
-        4 => Given::Cause(answer::Cause::Error),
-        5 => Given::Cause(answer::Cause::LanguageUnsupported),
-        6 => Given::Cause(answer::Cause::LexiconLoadFailure),
-        7 => Given::Cause(answer::Cause::Cancelled),
-        _ => Given::NoCause,
-    }
-}
-
 // The event that ends a request; 9 where there is no such cause.
 #[no_mangle]
 pub extern "C" fn klarvesimo_write_event(
@@ -109,13 +88,13 @@ pub extern "C" fn klarvesimo_write_event(
 ) -> u32
     ensures { λ r. ⌜ record { number = r; written = now (written .exit); out = now (out .exit) } ≡ wroteEvent (now (name .entry)) id (causeAt cause) (now (written .entry)) (now (out .entry)) ⌝ }
 {
-    let g = cause_given(cause);
+    let g = answer::cause_reported(cause);
     match g {
-        Given::NoCause => {
+        answer::Reported::NoCause => {
             written[0] = 0;
             9
         }
-        Given::Cause(c) => {
+        answer::Reported::Cause(c) => {
             let w = answer::complete(out, name, id, c);
             tell(w, written)
         }

@@ -2,14 +2,15 @@
 
 use std::io::{self, Write};
 
-use crate::channel::{Channel, MOST_OUTSTANDING};
-use crate::script::{put_channel, put_hex};
+use super::unsound::Given;
+use crate::kept::{self, Kept};
+use crate::script::{command, put_hex, put_words, Command};
 use crate::writing::{Answer, Event};
 
 #[derive(Default)]
 pub struct Batch {
     text: Vec<u8>,
-    /// Where each line ends, and whether its command writes output.
+    /// Where each line ends, and whether it is a call.
     lines: Vec<(usize, bool)>,
 }
 
@@ -74,21 +75,37 @@ impl Batch {
 
     pub fn show(&mut self) {
         self.text.extend_from_slice(b"show");
-        self.end(true);
+        self.end(false);
     }
 
-    /// A channel whose entries are those that its count says, or the count as
-    /// a further word where it says otherwise.
-    pub fn channel(&mut self, channel: &Channel, given: usize) {
-        let mut listed = *channel;
-        listed.queue.count = given as u32;
-        put_channel(&mut self.text, &listed);
-        debug_assert!(given <= MOST_OUTSTANDING);
-        if channel.queue.count as usize != given {
-            let count = format!(" {}", channel.queue.count);
+    pub fn numbers(&mut self) {
+        self.text.extend_from_slice(b"numbers");
+        self.end(false);
+    }
+
+    /// A `channel` line, with the count as a further word where it is not that
+    /// of the entries listed, and a `number` line for each that this leaves.
+    pub fn channel(&mut self, given: &Given) {
+        let begin = self.text.len();
+        let Kept(numbers) = given.kept;
+        self.text.extend_from_slice(b"channel ");
+        let queue = &numbers[kept::QUEUE..][..given.entries];
+        put_words(&mut self.text, &given.kept, &given.name, queue);
+        if numbers[kept::COUNT] != given.entries as u64 {
+            let count = format!(" {}", numbers[kept::COUNT]);
             self.text.extend_from_slice(count.as_bytes());
         }
+        let Ok(Some(Command::Channel(set))) = command(&self.text[begin..]) else {
+            unreachable!("the line is one of the language");
+        };
         self.end(false);
+        for (place, (number, set)) in numbers.iter().zip(set.0).enumerate() {
+            if *number != set {
+                let words = format!("number {place} {number}");
+                self.text.extend_from_slice(words.as_bytes());
+                self.end(false);
+            }
+        }
     }
 
     fn hex(&mut self, bytes: &[u8]) {
@@ -96,21 +113,20 @@ impl Batch {
         self.end(true);
     }
 
-    fn end(&mut self, writes: bool) {
+    fn end(&mut self, is_call: bool) {
         self.text.push(b'\n');
-        self.lines.push((self.text.len(), writes));
+        self.lines.push((self.text.len(), is_call));
     }
 
-    /// Writes lines until `most` commands that write output are among them;
-    /// gives how many were.
+    /// Writes lines until `most` calls are among them; gives how many were.
     pub fn write(&self, most: u64, out: &mut dyn Write) -> io::Result<u64> {
         let mut counted = 0;
         let mut end = 0;
-        for &(line_end, writes) in &self.lines {
+        for &(line_end, is_call) in &self.lines {
             if counted == most {
                 break;
             }
-            counted += u64::from(writes);
+            counted += u64::from(is_call);
             end = line_end;
         }
         out.write_all(&self.text[..end])?;

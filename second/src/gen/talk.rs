@@ -7,10 +7,11 @@ use super::batch::Batch;
 use super::bend::stated_length;
 use super::draft::{METHODS, UNKNOWN_METHODS};
 use super::random::Random;
-use super::unsound::{bad_name, broken, good_name, sound};
+use super::unsound::{bad_name, broken, given, good_name, sound};
 use super::wire;
 use super::wish::Wish;
 use crate::channel::Channel;
+use crate::kept::Kept;
 
 /// No answer is longer than 305 bytes, so more room makes no difference.
 const ROOM: usize = 305;
@@ -55,6 +56,8 @@ struct Talk<'a> {
     batch: &'a mut Batch,
     random: &'a mut Random,
     /// The channel that whoever plays the script will have.
+    kept: Kept,
+    /// What a client takes it for, also where the numbers show none.
     channel: Channel,
     habit: [usize; 11],
 }
@@ -66,6 +69,7 @@ pub fn calls(batch: &mut Batch, random: &mut Random) {
     let mut talk = Talk {
         batch,
         random,
+        kept: Kept::of(&channel),
         channel,
         habit,
     };
@@ -110,12 +114,13 @@ impl Talk<'_> {
 
     /// A channel that the script sets, sound or with something broken.
     fn given_channel(&mut self, is_sound: bool) {
+        self.channel = sound(self.random);
         let given = match is_sound {
-            true => sound(self.random),
-            false => broken(self.random),
+            true => given(self.random, &self.channel),
+            false => broken(self.random, &self.channel),
         };
-        self.channel = given.channel;
-        self.batch.channel(&given.channel, given.entries);
+        self.kept = given.kept;
+        self.batch.channel(&given);
         self.show();
         self.some_calls(if is_sound { 12 } else { 4 });
         self.show();
@@ -130,10 +135,14 @@ impl Talk<'_> {
     fn open(&mut self, name: &[u8]) {
         self.batch.open(name);
         self.channel = Channel::open(name).0;
+        self.kept = Kept::of(&self.channel);
     }
 
     fn show(&mut self) {
         self.batch.show();
+        if self.random.chance(50) {
+            self.batch.numbers();
+        }
     }
 
     fn call(&mut self) {
@@ -183,8 +192,15 @@ impl Talk<'_> {
 
     fn send_wish(&mut self, wish: &Wish) {
         let mut draft = wish.draft(self.random);
-        if self.random.chance(3) {
-            draft.after = wire::noise(self.random);
+        match self.random.weighted(&[94, 3, 3]) {
+            0 => {}
+            1 => draft.after = wire::noise(self.random),
+            // A second message in the same input, which must wait.
+            _ => {
+                let method = self.random.pick(&METHODS);
+                let next = Wish::good(self.random, &self.channel, method, wish.id + 1);
+                draft.after = next.draft(self.random).bytes();
+            }
         }
         self.send(&draft.bytes());
     }
@@ -256,24 +272,33 @@ impl Talk<'_> {
             _ => self.random.pick(&[4_294_967_295, 2_147_483_648]),
         };
         let mut output = [0; LARGE];
-        let mut trial = self.channel;
+        let mut trial = self.kept;
         let exact = trial.report(cause, &mut output).written;
         let room = self.room(exact);
         self.batch.report(cause, room);
-        self.channel.report(cause, &mut output[..room.min(LARGE)]);
+        self.kept.report(cause, &mut output[..room.min(LARGE)]);
+        self.look();
     }
 
     fn send(&mut self, bytes: &[u8]) {
         let mut output = [0; LARGE];
-        let mut trial = self.channel;
+        let mut trial = self.kept;
         let exact = trial.handle(bytes, &mut output).written;
         let room = self.room(exact);
         self.batch.message(room, bytes);
-        self.channel.handle(bytes, &mut output[..room.min(LARGE)]);
+        self.kept.handle(bytes, &mut output[..room.min(LARGE)]);
         // Too little room changes nothing, so the client's message comes again.
         if room < exact && self.random.chance(50) {
             self.batch.message(ROOM, bytes);
-            self.channel.handle(bytes, &mut output[..ROOM]);
+            self.kept.handle(bytes, &mut output[..ROOM]);
+        }
+        self.look();
+    }
+
+    /// What the client takes the channel for after a call.
+    fn look(&mut self) {
+        if let Some(channel) = self.kept.channel() {
+            self.channel = channel;
         }
     }
 

@@ -295,7 +295,8 @@ fn list(random: &mut Random, channel: &Channel) -> Vec<u8> {
             ids.push(id.to_string());
         }
         if random.chance(10) {
-            ids.push(format!("{id:010}"));
+            let width = random.between(1, 10);
+            ids.push(format!("{id:0width$}"));
         }
     }
     let others = match random.chance(1) {
@@ -306,8 +307,10 @@ fn list(random: &mut Random, channel: &Channel) -> Vec<u8> {
         let last = channel.last.unwrap_or(0) as usize;
         ids.push(random.below(last + 20).min(u32::MAX as usize).to_string());
     }
-    if random.chance(60) {
-        random.shuffle(&mut ids);
+    match random.below(3) {
+        0 => {}
+        1 => ids.reverse(),
+        _ => random.shuffle(&mut ids),
     }
     if ids.is_empty() {
         ids.push("4294967295".to_string());

@@ -1,7 +1,7 @@
 //! What the tests share. Not every test uses all of it.
 #![allow(dead_code)]
 
-use second::{Channel, Outcome};
+use second::{Kept, Outcome};
 
 pub const NAME: &[u8] = b"7f3a@speechsynth";
 
@@ -38,19 +38,19 @@ pub fn speak(id: u32, fields: &str) -> Vec<u8> {
     ))
 }
 
-pub fn opened() -> Channel {
-    let (channel, number) = Channel::open(NAME);
+pub fn opened() -> Kept {
+    let (channel, number) = Kept::open(NAME);
     assert_eq!(number, 0);
     channel
 }
 
 /// A call with room enough: its outcome and the bytes written. What lies past
 /// the count written must be untouched.
-pub fn handle(channel: &mut Channel, input: &[u8]) -> (Outcome, Vec<u8>) {
+pub fn handle(channel: &mut Kept, input: &[u8]) -> (Outcome, Vec<u8>) {
     handle_in(channel, input, 400)
 }
 
-pub fn handle_in(channel: &mut Channel, input: &[u8], room: usize) -> (Outcome, Vec<u8>) {
+pub fn handle_in(channel: &mut Kept, input: &[u8], room: usize) -> (Outcome, Vec<u8>) {
     let mut output = vec![0xa5; room];
     let outcome = channel.handle(input, &mut output);
     assert!(output[outcome.written..].iter().all(|&byte| byte == 0xa5));
@@ -58,7 +58,7 @@ pub fn handle_in(channel: &mut Channel, input: &[u8], room: usize) -> (Outcome, 
     (outcome, output)
 }
 
-pub fn report_in(channel: &mut Channel, cause: u32, room: usize) -> (Outcome, Vec<u8>) {
+pub fn report_in(channel: &mut Kept, cause: u32, room: usize) -> (Outcome, Vec<u8>) {
     let mut output = vec![0xa5; room];
     let outcome = channel.report(cause, &mut output);
     assert!(output[outcome.written..].iter().all(|&byte| byte == 0xa5));
@@ -67,7 +67,7 @@ pub fn report_in(channel: &mut Channel, cause: u32, room: usize) -> (Outcome, Ve
 }
 
 /// What a handled message is answered with: `200 COMPLETE 7,8`, the list as written.
-pub fn answer(channel: &mut Channel, input: &[u8]) -> String {
+pub fn answer(channel: &mut Kept, input: &[u8]) -> String {
     let (outcome, written) = handle(channel, input);
     if outcome.number != 0 {
         return format!("refused {}", outcome.number);
@@ -87,7 +87,7 @@ pub fn answer(channel: &mut Channel, input: &[u8]) -> String {
 }
 
 /// The channel as `show` prints it, without its name.
-pub fn shown(channel: &Channel) -> String {
+pub fn shown(channel: &Kept) -> String {
     let mut text = Vec::new();
     second::script::put_channel(&mut text, channel);
     let text = String::from_utf8(text).unwrap();
@@ -95,11 +95,11 @@ pub fn shown(channel: &Channel) -> String {
 }
 
 /// A channel from the words of a `channel` line after its name.
-pub fn given(words: &str) -> Channel {
+pub fn given(words: &str) -> Kept {
     given_name(NAME, words)
 }
 
-pub fn given_name(name: &[u8], words: &str) -> Channel {
+pub fn given_name(name: &[u8], words: &str) -> Kept {
     let mut line = b"channel ".to_vec();
     second::script::put_hex(&mut line, name);
     line.extend_from_slice(format!(" {words}").as_bytes());

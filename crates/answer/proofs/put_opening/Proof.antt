@@ -2,7 +2,7 @@
 use native.Mathlib.Omega.{arith}
 use mathlib.Core.Path.{refl}
 use Rattle.writers.proofs.Put.{_▸_, kept}
-use Rattle.answer.specs.Written.{openingText}
+use Rattle.answer.specs.Steps.{openingText}
 use Rattle.answer.proofs.put_opening.Statement.{statement}
 use Rattle.answer.proofs.put_opening.Tie as tie
 

@@ -1,11 +1,11 @@
 -- `firmware::hand_over` meets its contract. Assumes nothing.
 use borrow.Author.Needs.{needs}
 use mathlib.Core.Path.{_≡_, refl, _∙_}
-use Prim.Native.Nat.{ℕ, _-_, _≤_}
+use Prim.Native.Nat.{_-_, _≤_}
 use native.Mathlib.Omega.{arith}
 use lib.ListN.{length, take, drop}
 use lib.Seq.{length-take-le}
-use Rattle.firmware.proofs.Handing.{Sized, laid, laid-none, laid-more, header-sized, hand-short, hand-laid}
+use Rattle.firmware.proofs.Handing.{laid, laid-none, laid-more, header-sized, hand-short, hand-laid}
 use Rattle.firmware.proofs.hand_over.Statement.{statement}
 use Rattle.firmware.proofs.hand_over.Tie as tie
 use Rattle.firmware.proofs.hand_over.Reads as reads

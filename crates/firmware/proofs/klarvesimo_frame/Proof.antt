@@ -1,10 +1,10 @@
 -- `firmware::klarvesimo_frame` meets its contract. Assumes nothing.
 use borrow.Author.Needs.{needs}
-use mathlib.Core.Path.{sym, _∙_, ap}
+use mathlib.Core.Path.{_∙_, ap}
 use mathlib.Core.List.{List}
 use Prim.Native.Nat.{ℕ}
 use Rattle.firmware.proofs.Faces.{frame-face, frame-short, frame-whole}
-use Rattle.framing.specs.declared.Framing.the-variants.{More, NoMessage, TooLong, TooShort, Frame}
+use Rattle.framing.specs.declared.Framing.the-variants.{More, NoMessage, TooLong, TooShort}
 use Rattle.firmware.proofs.klarvesimo_frame.Statement.{statement}
 use Rattle.firmware.proofs.klarvesimo_frame.Tie as tie
 use Rattle.firmware.proofs.klarvesimo_frame.Reads as reads

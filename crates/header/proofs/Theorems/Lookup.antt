@@ -1,22 +1,28 @@
 -- What `lookup` finds by a header's mask and numbers is the field that `valueOf` finds by the names: its value, its place among those that came,
--- and its name. A name that is not known is never found.
+-- and its name. A name that is not known is never found; and
+-- what stands for a name, whether or not it came, is below 32.
 -- Assumes nothing.
 use mathlib.Core.Path.{_≡_, refl, sym, ap, subst, _∙_}
 use mathlib.Core.Bool.{Bool, true, false, not, _&&_}
-use mathlib.Core.List.{List, map}
+use mathlib.Core.List.{List, [], map}
 use Prim.Native.Nat.{ℕ, _<_}
 use native.Mathlib.Nat.{zero-add}
 use native.Mathlib.Omega.{arith}
 use lib.ListN.{getD, length-map}
-use Rattle.message.specs.Message.{Field, good, part, onField}
+use Rattle.message.specs.Message.{Field, Fields, bad, good, part, onField}
 use Rattle.message.specs.Known.{knownOf, indexOf, is, isKnown, among, onceEach, valueOf}
+use Rattle.message.specs.Reading.{fieldsFrom}
 use Rattle.message.specs.declared.Span.{Span}
 use Rattle.message.specs.declared.Known.{Known}
+use Rattle.message.proofs.Says.{Judged, fields-from}
 use Rattle.header.specs.Header.{noField, namesIn, headerOf}
 use Rattle.header.specs.Steps.{foundBy, valueAt}
 use Rattle.header.specs.declared.Header.{Header}
 use Rattle.header.specs.declared.Found.{Found}
-use Rattle.header.proofs.Masks.{bit, test-name}
+use Rattle.lists.proofs.Masks.{bit}
+use Rattle.header.proofs.Masks.{test-name}
+use Rattle.header.proofs.Marks.{which-below}
+use Rattle.header.proofs.Gathering.{names-length}
 use Rattle.header.proofs.Values.{texts-at, came, found-by, found-value}
 
 module _ (f : List ℕ) (fs : List (Field Span)) (body : Span) (once : onceEach (namesIn f fs) ≡ true) (k : Known) (known : isKnown k ≡ true) where
@@ -45,3 +51,10 @@ pub lookup-unknown : (mask : ℕ) (which : List ℕ) (k : Known) → isKnown k �
 lookup-unknown mask which k e =
     ap {B = Found} (λ t. elim t [ true ↦ Found.Nothing | false ↦ Found.At (getD which (indexOf k) 0) ])
     (test-name mask k ∙ ap (λ b. not (b && bit mask (indexOf k))) e)
+
+pub numbers-small : (f : List ℕ) (at i : ℕ) → getD (headerOf f (fieldsFrom f at) .which) i 0 < 32
+numbers-small f at i = go (fieldsFrom f at) (fields-from f at)
+  where
+    go : (x : Fields Span) → Judged f at x → getD (headerOf f x .which) i 0 < 32
+    go bad j = which-below [] (omega arith) i
+    go (good fs body) j = which-below (namesIn f fs) (omega (arith, names-length f fs, j .few)) i

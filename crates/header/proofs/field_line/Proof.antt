@@ -3,6 +3,8 @@
 use mathlib.Core.Path.{sym, ap, _∙_}
 use native.Mathlib.Omega.{arith}
 use borrow.Author.Tests.{not-true, not-false}
+use Rattle.octets.specs.Octets.{isName, isBlank}
+use Rattle.octets.proofs.Bits.{name-bit, blank-bit}
 use Rattle.header.specs.Steps.{lineOf}
 use Rattle.readers.proofs.Positions.{starts-in, crlf-in}
 use Rattle.header.proofs.Lining.{line-empty, line-none, line-long, line-colon, line-open, line-field}
@@ -10,8 +12,8 @@ use borrow.Author.Needs.{needs}
 use Rattle.header.proofs.field_line.Statement.{statement}
 use Rattle.header.proofs.field_line.Tie as tie
 
-name-end-requires : tie.Need-name-end-requires
-name-end-requires c κs = search needs
+class-end-requires : tie.Need-class-end-requires
+class-end-requires c κs = search needs
 
 crlf-requires : tie.Need-crlf-requires
 crlf-requires c κs = search needs
@@ -24,20 +26,20 @@ add-t12 c =
 returns : tie.Need-returns
 returns c =
     let a = c .before .before .before .before .before .args in
-    ap lineOf (sym (line-empty (a .f .now) (a .at) _ (c .before .before .before .name-end .ensures) (c .before .before .if1 .taken) (sym (c .before .crlf .ensures) ∙ c .if2 .taken)))
+    ap lineOf (sym (line-empty (a .f .now) (a .at) _ (c .before .before .before .class-end .ensures isName name-bit) (c .before .before .if1 .taken) (sym (c .before .crlf .ensures) ∙ c .if2 .taken)))
 
 returns-2 : tie.Need-returns-2
 returns-2 c =
     let a = c .before .before .before .before .before .args in
-    ap lineOf (sym (line-none (a .f .now) (a .at) _ (c .before .before .before .name-end .ensures) (c .before .before .if1 .taken) (sym (c .before .crlf .ensures) ∙ c .if2 .left)))
+    ap lineOf (sym (line-none (a .f .now) (a .at) _ (c .before .before .before .class-end .ensures isName name-bit) (c .before .before .if1 .taken) (sym (c .before .crlf .ensures) ∙ c .if2 .left)))
 
 sub-if3 : tie.Need-sub-if3
-sub-if3 c = search needs
+sub-if3 c = omega (arith, c .before .class-end .ensures isName name-bit)
 
 returns-3 : tie.Need-returns-3
 returns-3 c =
     let a = c .before .before .before .before .args in
-    ap lineOf (sym (line-long (a .f .now) (a .at) _ (c .before .before .name-end .ensures) (c .if3 .taken)))
+    ap lineOf (sym (line-long (a .f .now) (a .at) _ (c .before .before .class-end .ensures isName name-bit) (c .if3 .taken)))
 
 has-requires : tie.Need-has-requires
 has-requires c κs = search needs
@@ -46,16 +48,16 @@ returns-4 : tie.Need-returns-4
 returns-4 c =
     let p = c .before .before in
     let a = p .before .before .before .before .args in
-    ap lineOf (sym (line-colon (a .f .now) (a .at) _ (p .before .before .name-end .ensures) (p .before .if1 .left) (p .if3 .left)
+    ap lineOf (sym (line-colon (a .f .now) (a .at) _ (p .before .before .class-end .ensures isName name-bit) (p .before .if1 .left) (p .if3 .left)
     (sym (c .before .has .ensures) ∙ not-true _ (c .if4 .taken))))
 
-add-blank-end : tie.Need-add-blank-end
-add-blank-end c =
+add-class-end : tie.Need-add-class-end
+add-class-end c =
     let a = c .before .before .before .before .before .before .args in
-    omega (arith, starts-in 58 (a .f .now) (c .before .before .before .before .name-end .result) (sym (c .before .has .ensures) ∙ not-false _ (c .if4 .left)))
+    omega (arith, starts-in 58 (a .f .now) (c .before .before .before .before .class-end .result) (sym (c .before .has .ensures) ∙ not-false _ (c .if4 .left)))
 
-blank-end-requires : tie.Need-blank-end-requires
-blank-end-requires c κs = search needs
+class-end-requires-2 : tie.Need-class-end-requires-2
+class-end-requires-2 c κs = search needs
 
 value-end-requires : tie.Need-value-end-requires
 value-end-requires c κs = search needs
@@ -68,12 +70,12 @@ returns-5 c =
     let p = c .before .before .before .before in
     let a = p .before .before .before .before .before .before .args in
     let colon = sym (p .before .has .ensures) ∙ not-false _ (p .if4 .left) in
-    ap lineOf (sym (line-open (a .f .now) (a .at) _ (p .before .before .before .before .name-end .ensures) (p .before .before .before .if1 .left)
-    (p .before .before .if3 .left) colon _ (c .before .before .before .blank-end .ensures) _ (c .before .before .value-end .ensures)
+    ap lineOf (sym (line-open (a .f .now) (a .at) _ (p .before .before .before .before .class-end .ensures isName name-bit) (p .before .before .before .if1 .left)
+    (p .before .before .if3 .left) colon _ (c .before .before .before .class-end2 .ensures isBlank blank-bit) _ (c .before .before .value-end .ensures)
     (sym (c .before .crlf2 .ensures) ∙ not-true _ (c .if5 .taken))))
 
 sub-t13 : tie.Need-sub-t13
-sub-t13 c = search needs
+sub-t13 c = omega (arith, c .before .before .before .before .before .before .before .before .class-end .ensures isName name-bit)
 
 sub-t13-2 : tie.Need-sub-t13-2
 sub-t13-2 c = search needs
@@ -88,15 +90,15 @@ returns-6 c =
     let p = c .before .before .before .before .before in
     let a = p .before .before .before .before .before .before .args in
     let colon = sym (p .before .has .ensures) ∙ not-false _ (p .if4 .left) in
-    ap lineOf (sym (line-field (a .f .now) (a .at) _ (p .before .before .before .before .name-end .ensures) (p .before .before .before .if1 .left)
-    (p .before .before .if3 .left) colon _ (c .before .before .before .before .blank-end .ensures) _ (c .before .before .before .value-end .ensures)
+    ap lineOf (sym (line-field (a .f .now) (a .at) _ (p .before .before .before .before .class-end .ensures isName name-bit) (p .before .before .before .if1 .left)
+    (p .before .before .if3 .left) colon _ (c .before .before .before .before .class-end2 .ensures isBlank blank-bit) _ (c .before .before .before .value-end .ensures)
     (sym (c .before .before .crlf2 .ensures) ∙ not-false _ (c .before .if5 .left))))
 
 pub field-line-spec : {M : Type 1} → statement M
 field-line-spec =
     tie.close
     (tie.spec
-    name-end-requires
+    class-end-requires
     crlf-requires
     add-t12
     returns
@@ -105,8 +107,8 @@ field-line-spec =
     returns-3
     has-requires
     returns-4
-    add-blank-end
-    blank-end-requires
+    add-class-end
+    class-end-requires-2
     value-end-requires
     crlf-requires-2
     returns-5

@@ -1,6 +1,6 @@
 -- `header::known` meets its contract: the length says which name to compare with.
 -- Assumes nothing.
-use mathlib.Core.Path.{refl, sym, ap, _∙_}
+use mathlib.Core.Path.{sym, ap, _∙_}
 use Rattle.message.specs.Known.{orElse}
 use Rattle.message.specs.declared.Known.the-variants.{ChannelIdentifier, ContentLength, ContentType, ActiveRequestIdList, KillOnBargeIn, ProxySyncId, LoggingTag, Unknown}
 use Rattle.header.proofs.Names.{known-by, known-none}
@@ -12,7 +12,7 @@ slice-aggregate-alike : tie.Need-slice-aggregate-alike
 slice-aggregate-alike c = search needs
 
 alike-requires : tie.Need-alike-requires
-alike-requires c κs = refl
+alike-requires c κs = search needs
 
 or-unknown-requires : tie.Need-or-unknown-requires
 or-unknown-requires c κs = search needs
@@ -21,7 +21,7 @@ slice-aggregate-alike-2 : tie.Need-slice-aggregate-alike-2
 slice-aggregate-alike-2 c = search needs
 
 alike-requires-2 : tie.Need-alike-requires-2
-alike-requires-2 c κs = refl
+alike-requires-2 c κs = search needs
 
 or-unknown-requires-2 : tie.Need-or-unknown-requires-2
 or-unknown-requires-2 c κs = search needs
@@ -30,7 +30,7 @@ slice-aggregate-alike-3 : tie.Need-slice-aggregate-alike-3
 slice-aggregate-alike-3 c = search needs
 
 alike-requires-3 : tie.Need-alike-requires-3
-alike-requires-3 c κs = refl
+alike-requires-3 c κs = search needs
 
 or-unknown-requires-3 : tie.Need-or-unknown-requires-3
 or-unknown-requires-3 c κs = search needs
@@ -39,7 +39,7 @@ slice-aggregate-alike-4 : tie.Need-slice-aggregate-alike-4
 slice-aggregate-alike-4 c = search needs
 
 alike-requires-4 : tie.Need-alike-requires-4
-alike-requires-4 c κs = refl
+alike-requires-4 c κs = search needs
 
 or-unknown-requires-4 : tie.Need-or-unknown-requires-4
 or-unknown-requires-4 c κs = search needs
@@ -48,7 +48,7 @@ slice-aggregate-alike-5 : tie.Need-slice-aggregate-alike-5
 slice-aggregate-alike-5 c = search needs
 
 alike-requires-5 : tie.Need-alike-requires-5
-alike-requires-5 c κs = refl
+alike-requires-5 c κs = search needs
 
 or-unknown-requires-5 : tie.Need-or-unknown-requires-5
 or-unknown-requires-5 c κs = search needs
@@ -57,7 +57,7 @@ slice-aggregate-alike-6 : tie.Need-slice-aggregate-alike-6
 slice-aggregate-alike-6 c = search needs
 
 alike-requires-6 : tie.Need-alike-requires-6
-alike-requires-6 c κs = refl
+alike-requires-6 c κs = search needs
 
 or-unknown-requires-6 : tie.Need-or-unknown-requires-6
 or-unknown-requires-6 c κs = search needs
@@ -66,7 +66,7 @@ slice-aggregate-alike-7 : tie.Need-slice-aggregate-alike-7
 slice-aggregate-alike-7 c = search needs
 
 alike-requires-7 : tie.Need-alike-requires-7
-alike-requires-7 c κs = refl
+alike-requires-7 c κs = search needs
 
 or-unknown-requires-7 : tie.Need-or-unknown-requires-7
 or-unknown-requires-7 c κs = search needs

@@ -7,7 +7,7 @@ use mathlib.Core.Path.{_≡_, refl, sym, _∙_}
 use Prim.Native.Nat.{_+_, _-_}
 use lib.ListN.{length, drop}
 use Rattle.lists.specs.Lists.{run}
-use Rattle.octets.specs.Octets.{isValue, isBlank}
+use Rattle.octets.specs.Octets.{isValue}
 use Rattle.octets.proofs.Bits.{value-bit, blank-bit}
 use Rattle.readers.proofs.Positions.{run-end, run-stop, run-step}
 use Rattle.header.proofs.Runs.{reach, reach-same, solid, solid-end, solid-stop, solid-blank, solid-solid}
@@ -38,7 +38,7 @@ returns : tie.Need-returns Inv-loop μ-loop
 returns c =
     let z = c .before .before .before .before .before in
     let l = c .before .before .before .before .loop in
-    let e = bit-clear 8 isValue value-bit (z .args .class .now) (z .pre) _ (omega (arith, c .before .before .shared-slice-known .given (l .i))) (c .if1 .taken) in record {
+    let e = bit-clear value-bit (z .args .class .now) (z .pre) _ (omega (arith, c .before .before .shared-slice-known .given (l .i))) (c .if1 .taken) in record {
       end = sym (l .inv .0 ∙ run-stop isValue (z .args .f .now) (l .i) (search needs) e);
       last = sym (l .inv .1 ∙ solid-stop (z .args .f .now) (l .i) (l .last) (search needs) e);
     }
@@ -54,8 +54,8 @@ loop-again c =
     let z = c .before .before .before .before .before .before in
     let l = c .before .before .before .before .before .loop in
     let small = c .before .before .before .shared-slice-known .given (l .i) in
-    let e = bit-set 8 isValue value-bit (z .args .class .now) (z .pre) _ (omega (arith, small)) (c .before .if1 .left) in
-    let b = bit-clear 16 isBlank blank-bit (z .args .class .now) (z .pre) _ (omega (arith, small)) (c .if2 .taken) in (
+    let e = bit-set value-bit (z .args .class .now) (z .pre) _ (omega (arith, small)) (c .before .if1 .left) in
+    let b = bit-clear blank-bit (z .args .class .now) (z .pre) _ (omega (arith, small)) (c .if2 .taken) in (
       l .inv .0 ∙ run-step isValue (z .args .f .now) (l .i) (search needs) e,
       l .inv .1 ∙ solid-solid (z .args .f .now) (l .i) (l .last) (search needs) e b,
     )
@@ -68,8 +68,8 @@ loop-again-2 c =
     let z = c .before .before .before .before .before .before in
     let l = c .before .before .before .before .before .loop in
     let small = c .before .before .before .shared-slice-known .given (l .i) in
-    let e = bit-set 8 isValue value-bit (z .args .class .now) (z .pre) _ (omega (arith, small)) (c .before .if1 .left) in
-    let b = bit-set 16 isBlank blank-bit (z .args .class .now) (z .pre) _ (omega (arith, small)) (c .if2 .left) in (
+    let e = bit-set value-bit (z .args .class .now) (z .pre) _ (omega (arith, small)) (c .before .if1 .left) in
+    let b = bit-set blank-bit (z .args .class .now) (z .pre) _ (omega (arith, small)) (c .if2 .left) in (
       l .inv .0 ∙ run-step isValue (z .args .f .now) (l .i) (search needs) e,
       l .inv .1 ∙ solid-blank (z .args .f .now) (l .i) (l .last) (search needs) e b,
     )

@@ -12,10 +12,10 @@ use Rattle.readers.proofs.text_within.Statement.{statement}
 use Rattle.readers.proofs.text_within.Tie as tie
 
 abbrev Inv-loop : tie.InvT-loop
-Inv-loop s at t i₀ k₀ i k = (k ≤ length t) × (i ≡ at + k) × (placed at (textOf t (drop at s)) ≡ placed i (textOf (drop k t) (drop i s)))
+Inv-loop s at t i₀ j₀ i j = (j ≤ length t) × (i ≡ at + j) × (placed at (textOf t (drop at s)) ≡ placed i (textOf (drop j t) (drop i s)))
 
 abbrev μ-loop : tie.MeasureT-loop
-μ-loop s at t i₀ k₀ i k = length t - k
+μ-loop s at t i₀ j₀ i j = length t - j
 
 loop-holds : tie.Need-loop-holds Inv-loop μ-loop
 loop-holds c = (search needs, search needs, refl)
@@ -30,13 +30,13 @@ returns : tie.Need-returns Inv-loop μ-loop
 returns c =
     let l = c .before .before .before .before .loop in
     let a = c .before .before .before .before .before .args in
-    sym (l .inv .2 ∙ text-wrong (a .s .now) (a .t .now) (l .i) (l .k) (search needs) (search needs) (c .if1 .taken))
+    sym (l .inv .2 ∙ text-wrong (a .s .now) (a .t .now) (l .i) (l .j) (search needs) (search needs) (c .if1 .taken))
 
 add-i : tie.Need-add-i Inv-loop μ-loop
 add-i c = search needs
 
-add-k : tie.Need-add-k Inv-loop μ-loop
-add-k c = search needs
+add-j : tie.Need-add-j Inv-loop μ-loop
+add-j c = search needs
 
 loop-less : tie.Need-loop-less Inv-loop μ-loop
 loop-less c = search needs
@@ -45,13 +45,13 @@ loop-again : tie.Need-loop-again Inv-loop μ-loop
 loop-again c =
     let l = c .before .before .before .before .loop in
     let a = c .before .before .before .before .before .args in
-    (search needs, search needs, l .inv .2 ∙ text-step (a .s .now) (a .t .now) (l .i) (l .k) (search needs) (search needs) (c .if1 .left))
+    (search needs, search needs, l .inv .2 ∙ text-step (a .s .now) (a .t .now) (l .i) (l .j) (search needs) (search needs) (c .if1 .left))
 
 returns-2 : tie.Need-returns-2 Inv-loop μ-loop
 returns-2 c =
     let l = c .before .loop in
     let a = c .before .before .args in
-    sym (l .inv .2 ∙ text-end (a .s .now) (a .t .now) (l .i) (l .k) (search needs))
+    sym (l .inv .2 ∙ text-end (a .s .now) (a .t .now) (l .i) (l .j) (search needs))
 
 pub text-within-spec : {M : Type 1} → statement M
 text-within-spec =
@@ -64,7 +64,7 @@ text-within-spec =
     shared-slice-read-if1-2
     returns
     add-i
-    add-k
+    add-j
     loop-less
     loop-again
     returns-2)

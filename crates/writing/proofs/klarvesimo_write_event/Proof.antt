@@ -6,11 +6,11 @@ use Rattle.writing.proofs.klarvesimo_write_event.Tie as tie
 use Rattle.writing.proofs.klarvesimo_write_event.Reads as reads
 use Rattle.writing.proofs.klarvesimo_write_event.Lts as lts
 use Rattle.answer.proofs.complete.Reads as complete-reads
-use Rattle.writing.proofs.cause_given.Reads as cause-given-reads
+use Rattle.answer.proofs.cause_reported.Reads as cause-reported-reads
 use Rattle.writing.proofs.tell.Reads as tell-reads
 
-cause-given-requires : tie.Need-cause-given-requires
-cause-given-requires c κs = search needs
+cause-reported-requires : tie.Need-cause-reported-requires
+cause-reported-requires c κs = search needs
 
 enum-told : tie.Need-enum-told
 enum-told c = search needs
@@ -30,7 +30,7 @@ tell-requires c κs = search needs
 returns : tie.Need-returns
 returns c =
     let a = c .before .before .before .before .before .args in
-    cause-refused (a .name .now) (a .written .now) (a .out .now) (a .id) (a .cause) _ (c .before .before .cause-given .ensures) (c .enum-told .given .1)
+    cause-refused (a .name .now) (a .written .now) (a .out .now) (a .id) (a .cause) _ (c .before .before .cause-reported .ensures) (c .enum-told .given .1)
 
 same-length : tie.Need-same-length
 same-length c = search needs
@@ -39,14 +39,14 @@ returns-2 : tie.Need-returns-2
 returns-2 c =
     let a = c .before .before .before .before .before .before .before .before .before .before .before .before .args in
     let w = c .before .before .before .before .complete in
-    completed (a .name .now) (a .written .now) (a .out .now) (a .id) (a .cause) _ (c .before .before .before .before .before .before .before .before .before .cause-given .ensures) _ (c .before .before .before .before .before .before .before .g .given .1) _ _ _
+    completed (a .name .now) (a .written .now) (a .out .now) (a .id) (a .cause) _ (c .before .before .before .before .before .before .before .before .before .cause-reported .ensures) _ (c .before .before .before .before .before .before .before .g .given .1) _ _ _
     (w .ensures .0) (w .ensures .1) (c .tell .ensures)
 
 pub klarvesimo-write-event-spec : {M : Type 1} → statement M
 klarvesimo-write-event-spec =
     tie.close
     (tie.spec
-    cause-given-requires
+    cause-reported-requires
     enum-told
     element-write-written
     enum-known-g

@@ -1,0 +1,42 @@
+-- What every call on a channel promises: document 01, "Refusal numbers" and "How tight the promises are".
+use Prim.Native.Nat.{ℕ}
+use mathlib.Core.Path.{_≡_}
+use mathlib.Core.List.{List, _++_}
+use lib.ListN.{length, drop}
+use Rattle.ledger.specs.Ledger.{Turn}
+use Rattle.synth.specs.Channel.{View}
+use Rattle.synth.specs.Calls.{Lent, Reply, call}
+use Rattle.channel.specs.Channel.{view}
+use Rattle.channel.specs.declared.Channel.{Channel}
+use Rattle.calls.specs.declared.Handled.{Handled}
+
+-- a call's number, the counts consumed and written, the channel and the lent output, as it leaves them
+pub record Left : Type 0 where
+  pub number : ℕ
+  pub consumed : ℕ
+  pub written : ℕ
+  pub channel : View
+  pub out : List ℕ
+
+-- what a turn leaves: the bytes written stand at the front of the output, and beyond that count it is untouched
+abbrev pub leftBy : Turn View Reply → List ℕ → Left
+leftBy t out = record {
+  number = t .reply .number;
+  consumed = t .reply .consumed;
+  written = length (t .reply .written);
+  channel = t .next;
+  out = t .reply .written ++ drop (length (t .reply .written)) out;
+}
+
+-- the same from what the code returns, and the output afterwards
+abbrev pub leftIn : Handled → List ℕ → Left
+leftIn r out = record { number = r .number; consumed = r .consumed; written = r .written; channel = view (r .channel); out = out }
+
+-- a call on the channel c leaves what the turn t says; a refused call gives back the very channel handed in
+pub record Leaves (c : Channel) (t : Turn View Reply) (out : List ℕ) (r : Handled) (after : List ℕ) : Type 0 where
+  pub same : leftIn r after ≡ leftBy t out
+  pub kept : (r .number ≡ 0 → ⊥) → r .channel ≡ c
+
+-- the promise of `handle` and `report`: of any channel, any input or cause, and any output
+abbrev pub Promise : Channel → Lent → List ℕ → Handled → List ℕ → Type 0
+Promise c lent out r after = Leaves c (call (view c) (record { lent = lent; room = length out })) out r after

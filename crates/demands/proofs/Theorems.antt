@@ -1,0 +1,4 @@
+pub mod Demand1
+pub mod Demand3
+pub mod Soundness
+pub mod Demand3FromC

@@ -1,0 +1,181 @@
+-- Demands 1 and 3 of the code, over the clause that the contracts of `handle` and `report` promise: document 01, "Refusal numbers" and "How
+-- tight the promises are".
+use Prim.Native.Nat.{ℕ}
+use mathlib.Core.Path.{_≡_}
+use mathlib.Core.Bool.{Bool, true, false, not}
+use mathlib.Core.Option.{Option, none, some}
+use mathlib.Core.List.{List, [], _∷_, _++_}
+use lib.Dec.{eqb, ltb}
+use lib.ListN.{length, take, drop}
+use Rattle.lists.specs.Lists.{All}
+use Rattle.framing.specs.Framing.{framing, refusal, frameLength}
+use Rattle.framing.specs.declared.Framing.{Framing}
+use Rattle.framing.specs.declared.Framing.the-variants.{More, NoMessage, TooLong, TooShort, Frame}
+use Rattle.message.specs.Message.{Reading, refused, message, request, response, event}
+use Rattle.message.specs.StartLines.{Started, started, startLine}
+use Rattle.message.specs.Reading.{heard}
+use Rattle.answer.specs.Written.{writtenAll}
+use Rattle.ledger.specs.Ledger.{Seen, Balanced, Run}
+use Rattle.synth.specs.Channel.{View, held, sound}
+use Rattle.synth.specs.Request.{requestOf}
+use Rattle.synth.specs.States.{Outcome, judge, completed}
+use Rattle.synth.specs.Calls.{Lent, input, cause, Call, Reply, openChannel}
+use Rattle.synth.specs.Demand3.{accepts, closes}
+use Rattle.synth.specs.declared.State.{State}
+use Rattle.synth.specs.declared.State.the-variants.{Idle, Speaking, Paused}
+use Rattle.synth.specs.declared.Entry.{Entry}
+use Rattle.channel.specs.Channel.{view, opened}
+use Rattle.channel.specs.declared.Channel.{Channel}
+use Rattle.channel.specs.declared.Opening.{Opening}
+use Rattle.calls.specs.Promise.{Promise, leftIn}
+use Rattle.calls.specs.declared.Handled.{Handled}
+use Rattle.words.specs.Words.{viewOf}
+use Rattle.klarvesimo.specs.Face.{openFace, CallFace, callFace}
+
+-- a line of the table of refusals, by the paper's columns: its number, given exactly when it is due, and the input consumed
+pub record Line : Type 0 where
+  pub number : ℕ
+  pub due : Bool
+  pub consumed : ℕ
+
+-- a line, written as a row
+abbrev pub given : ℕ → Bool → ℕ → Line
+given number due consumed = record { number = number; due = due; consumed = consumed }
+
+-- the start line is of none of the three kinds
+abbrev pub isMalformed : Started → Bool
+isMalformed Started.malformed = true
+isMalformed (started start at) = false
+
+-- 5: framed, start line malformed
+abbrev pub malformedIn : List ℕ → Framing → Bool
+malformedIn s More = false
+malformedIn s NoMessage = false
+malformedIn s TooLong = false
+malformedIn s TooShort = false
+malformedIn s (Frame major minor k n) = isMalformed (startLine k (take n s))
+
+-- 6: framed, a response or event, no request
+abbrev pub noRequest : Reading (List ℕ) → Bool
+noRequest (refused number consumed) = false
+noRequest (message h (request name id) fs) = false
+noRequest (message h (response id status state) fs) = true
+noRequest (message h (event name id state) fs) = true
+
+-- 8: nothing is speaking (idle or paused)
+abbrev pub isSilent : State → Bool
+isSilent Idle = true
+isSilent Speaking = false
+isSilent Paused = true
+
+-- nothing is said, and the channel stays as it was
+abbrev pub nothing : View → Outcome
+nothing v = record { says = []; next = v }
+
+-- what is said to a request, and the channel afterwards
+abbrev pub answering : View → Reading (List ℕ) → Outcome
+answering v (refused number consumed) = nothing v
+answering v (message h (request name id) fs) = judge v (requestOf h name id fs)
+answering v (message h (response id status state) fs) = nothing v
+answering v (message h (event name id state) fs) = nothing v
+
+-- the same of a report, which ends the active one
+abbrev pub ending : View → List Entry → ℕ → Outcome
+ending v [] n = nothing v
+ending v (e ∷ queue) n = completed e queue v n
+
+-- what a call that no line refuses says, and the channel afterwards
+abbrev pub outcome : View → Lent → Outcome
+outcome v (input s) = answering v (heard s)
+outcome v (cause n) = ending v (v .queue) n
+
+-- the exact answer
+abbrev pub exact : View → Lent → List ℕ
+exact v lent = writtenAll (outcome v lent .says)
+
+-- the stated length; a report: none
+abbrev pub stated : Lent → ℕ
+stated (input s) = frameLength (framing s)
+stated (cause n) = 0
+
+-- the refusals of a message and of a report, in the order in which they go before each other, where `room` bytes of output are lent
+unfoldable pub table : View → Lent → ℕ → List Line
+table v (input s) room =
+    given 21 (not (sound v)) 0  -- the channel handed in is not sound
+    ∷ given 1 (eqb (refusal (framing s)) 1) 0  -- more bytes needed
+    ∷ given 2 (eqb (refusal (framing s)) 2) 0  -- the bytes can't begin a message
+    ∷ given 3 (eqb (refusal (framing s)) 3) 0  -- stated length above 16,384
+    ∷ given 4 (eqb (refusal (framing s)) 4) 0  -- stated length below the opening's own length
+    ∷ given 5 (malformedIn s (framing s)) (stated (input s))  -- framed, start line malformed
+    ∷ given 6 (noRequest (heard s)) (stated (input s))  -- framed, a response or event, no request
+    ∷ given 7 (ltb room (length (exact v (input s)))) 0  -- the exact answer is longer than the lent output
+    ∷ []
+table v (cause n) room =
+    given 21 (not (sound v)) 0
+    ∷ given 9 (ltb 7 n) 0  -- engine cause above 7
+    ∷ given 8 (isSilent (v .state)) 0  -- engine report while nothing is speaking
+    ∷ given 7 (ltb room (length (exact v (cause n)))) 0
+    ∷ []
+
+-- the first line that is due, if any is
+abbrev pub firstDue : List Line → Option Line
+firstDue [] = none
+firstDue (l ∷ ls) = elim (l .due) [ true ↦ some l | false ↦ firstDue ls ]
+
+-- A line that is due: its number and count, no byte written, the very channel, the output as it was. None due: 0, the stated length as
+-- consumed, the exact answer at the front of the output, its rest as it was, and the channel of the outcome.
+abbrev pub ByTable : Option Line → Channel → Lent → List ℕ → Handled → List ℕ → Type 0
+ByTable (some l) c lent out r after =
+    (r ≡ record { number = l .number; consumed = l .consumed; written = 0; channel = c }) × (after ≡ out)
+ByTable none c lent out r after =
+    let answer : List ℕ = exact (view c) lent in
+    leftIn r after ≡ record {
+      number = 0;
+      consumed = stated lent;
+      written = length answer;
+      channel = outcome (view c) lent .next;
+      out = answer ++ drop (length answer) out;
+    }
+
+-- Demand 1: whatever `handle` and `report` promise is what the first line of the table that is due says, and a sound channel stays sound
+abbrev pub Demand1OfTheCode : Type 0
+Demand1OfTheCode = (c : Channel) (lent : Lent) (out : List ℕ) (r : Handled) (after : List ℕ) → Promise c lent out r after
+    → ByTable (firstDue (table (view c) lent (length out))) c lent out r after × (sound (view c) ≡ true → sound (view (r .channel)) ≡ true)
+
+-- one call of the code on the channel c, and what is seen of it from outside
+pub record Called (c : Channel) (k : Call) (r : Reply) (next : Channel) : Type 0 where
+  pub out : List ℕ
+  pub after : List ℕ
+  pub handled : Handled
+  pub room : k .room ≡ length out
+  pub promised : Promise c (k .lent) out handled after
+  pub seen : r ≡ record { number = handled .number; consumed = handled .consumed; written = take (handled .written) after }
+  pub left : next ≡ handled .channel
+
+-- Demand 3: for every list of calls on a channel as `open_channel` returned it, with any outputs
+abbrev pub Demand3OfTheCode : Type 0
+Demand3OfTheCode = (name : List ℕ) (o : Opening) (calls : List (Seen Call Reply)) (last : Channel)
+    → opened o ≡ openChannel name → Run Called (o .channel) calls last → Balanced accepts closes calls (held (view last))
+
+-- every list of calls on a channel that was opened with number 0 leaves a sound channel, and none of them is refused with 21
+abbrev pub SoundOfTheCode : Type 0
+SoundOfTheCode = (name : List ℕ) (o : Opening) (calls : List (Seen Call Reply)) (last : Channel)
+    → opened o ≡ openChannel name → o .number ≡ 0 → Run Called (o .channel) calls last
+    → (sound (view last) ≡ true) × All (λ (x : Seen Call Reply). x .reply .number ≡ 21 → ⊥) calls
+
+-- the ids that a channel holds whose 64 numbers the caller keeps; numbers that are no channel hold none
+abbrev pub heldIn : Option View → List ℕ
+heldIn none = []
+heldIn (some v) = held v
+
+-- one call of the C face, `klarvesimo_handle` or `klarvesimo_report`, on the numbers ws, and what is seen of it from outside
+pub record CalledFromC (ws : List ℕ) (k : Call) (r : Reply) (next : List ℕ) : Type 0 where
+  pub out : List ℕ
+  pub room : k .room ≡ length out
+  pub seen : r ≡ (let f : CallFace = callFace ws (k .lent) out in record { number = f .number; consumed = f .consumed; written = take (f .written) (f .out) })
+  pub left : next ≡ callFace ws (k .lent) out .channel
+
+-- Demand 3 as C sees it: for every list of calls on the numbers that `klarvesimo_open` gave, each call getting those that the last one left
+abbrev pub Demand3OfTheFace : Type 0
+Demand3OfTheFace = (name : List ℕ) (calls : List (Seen Call Reply)) (last : List ℕ)
+    → Run CalledFromC (openFace name .channel) calls last → Balanced accepts closes calls (heldIn (viewOf last))

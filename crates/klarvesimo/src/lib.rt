@@ -1,0 +1,111 @@
+// The C face of a channel, kept by the caller as 64 numbers. include/klarvesimo.h is its manual; framing and reading alone are in `firmware`.
+ghost use mathlib.Core.Path.{_≡_};
+ghost use mathlib.Core.List.{_++_};
+ghost use Prim.Native.Nat.{_≤_};
+ghost use lib.ListN.{length, take, drop};
+ghost use Rattle.synth.specs.Calls.{input, cause as causeOf};
+ghost use Rattle.klarvesimo.specs.Face.{openFace, callFace, counted, told, heldFace, listed};
+
+#[no_mangle]
+pub extern "C" fn klarvesimo_open(channel: &mut [u64; 64], name: &[u8]) -> u32
+    ensures { λ r. ⌜ record { number = r; channel = now (channel .exit) } ≡ openFace (now (name .entry)) ⌝ }
+{
+    let o = channel::open_channel(name);
+    let c = o.channel;
+    *channel = words::save(c);
+    o.number
+}
+
+// A client message: `counts` gets what was consumed and what was written.
+#[no_mangle]
+pub extern "C" fn klarvesimo_handle(
+    channel: &mut [u64; 64],
+    s: &[u8],
+    out: &mut [u8],
+    counts: &mut [u64; 2],
+) -> u32
+    ensures { λ r. ⌜ record { number = r; channel = now (channel .exit); counts = now (counts .exit); out = now (out .exit) } ≡ counted (now (counts .entry)) (callFace (now (channel .entry)) (input (now (s .entry))) (now (out .entry))) ⌝ }
+{
+    counts[0] = 0;
+    counts[1] = 0;
+    let ws = *channel;
+    let l = words::load(&ws);
+    if !l.fits {
+        return 21;
+    }
+    let c = l.channel;
+    let r = calls::handle(c, s, out);
+    counts[0] = r.consumed as u64;
+    counts[1] = r.written as u64;
+    if r.number != 0 {
+        return r.number;
+    }
+    let next = r.channel;
+    *channel = words::save(next);
+    0
+}
+
+// An engine report.
+#[no_mangle]
+pub extern "C" fn klarvesimo_report(
+    channel: &mut [u64; 64],
+    cause: u32,
+    out: &mut [u8],
+    written: &mut [u64; 1],
+) -> u32
+    ensures { λ r. ⌜ record { number = r; channel = now (channel .exit); written = now (written .exit); out = now (out .exit) } ≡ told (now (written .entry)) (callFace (now (channel .entry)) (causeOf cause) (now (out .entry))) ⌝ }
+{
+    written[0] = 0;
+    let ws = *channel;
+    let l = words::load(&ws);
+    if !l.fits {
+        return 21;
+    }
+    let c = l.channel;
+    let e = calls::report(c, cause, out);
+    written[0] = e.written as u64;
+    if e.number != 0 {
+        return e.number;
+    }
+    let after = e.channel;
+    *channel = words::save(after);
+    0
+}
+
+// The first `n` of `ids` at the front of `out`.
+fn put_ids(out: &mut [u64], ids: [u32; 16], n: usize)
+    requires { ⌜ n ≤ 16 ⌝ }
+    requires { ⌜ n ≤ length (now out) ⌝ }
+    ensures { λ _. ⌜ now (out .exit) ≡ take n ids ++ drop n (now (out .entry)) ⌝ }
+{
+    let mut i = 0;
+    while i < n {
+        out[i] = ids[i] as u64;
+        i += 1;
+    }
+}
+
+// The ids that the channel holds.
+#[no_mangle]
+pub extern "C" fn klarvesimo_held(channel: &[u64; 64], ids: &mut [u64], count: &mut [u64; 1]) -> u32
+    ensures { λ r. ⌜ record { number = r; count = now (count .exit); ids = now (ids .exit) } ≡ listed (now (count .entry)) (heldFace (now (channel .entry)) (now (ids .entry))) ⌝ }
+{
+    count[0] = 0;
+    let l = words::load(channel);
+    if !l.fits {
+        return 21;
+    }
+    let c = l.channel;
+    if !channel::is_sound(c) {
+        return 21;
+    }
+    let held = channel::list_held(c);
+    let n = held.count;
+    if ids.len() < n {
+        return 7;
+    }
+    let list = held.ids;
+    put_ids(ids, list, n);
+    count[0] = n as u64;
+    0
+}

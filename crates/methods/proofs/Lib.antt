@@ -1,0 +1,3 @@
+pub mod Making
+mod Methods
+mod Stops

@@ -1,0 +1,54 @@
+-- `methods::control` goes by the state. Assumes nothing.
+use mathlib.Core.Path.{sym, ap, _∙_, refl}
+use Rattle.message.specs.declared.RequestState.the-variants.{Complete}
+use Rattle.synth.specs.Channel.{isIdle}
+use Rattle.synth.specs.declared.Method.{Method}
+use Rattle.channel.specs.Channel.{view}
+use Rattle.channel.proofs.Views.{state-is}
+use Rattle.methods.specs.Outcomes.{asked}
+use Rattle.methods.proofs.Making.{unchanged, active-listed, makes-failed, makes-success}
+use Rattle.methods.proofs.Methods.{control-idle, control-busy}
+use borrow.Author.Needs.{needs}
+use Rattle.methods.proofs.control.Statement.{statement}
+use Rattle.methods.proofs.control.Tie as tie
+
+is-idle-requires : tie.Need-is-idle-requires
+is-idle-requires c κs = search needs
+
+not-valid-in-state-requires : tie.Need-not-valid-in-state-requires
+not-valid-in-state-requires c κs = search needs
+
+failed-requires : tie.Need-failed-requires
+failed-requires c κs = search needs
+
+returns : tie.Need-returns
+returns c = λ major minor fs i.
+    let a = c .before .before .before .before .args in
+    makes-failed (a .c) (asked major minor Method.Control (a .id) fs) _ 402 (c .before .not-valid-in-state .ensures) (c .failed .ensures)
+    (control-idle (view (a .c)) major minor (a .id) fs (ap isIdle (state-is (a .c)) ∙ sym (c .before .before .before .is-idle .ensures) ∙ c .before .before .if1 .taken))
+
+list-active-requires : tie.Need-list-active-requires
+list-active-requires c κs = search needs
+
+succeeded-requires : tie.Need-succeeded-requires
+succeeded-requires c κs = search needs
+
+returns-2 : tie.Need-returns-2
+returns-2 c = λ major minor fs i.
+    let a = c .before .before .before .before .args in
+    let v = view (a .c) in
+    makes-success (a .c) (asked major minor Method.Control (a .id) fs) (a .ignored) i Complete _ (v .state) (v .queue) (c .succeeded .ensures)
+    (active-listed (c .before .list-active .ensures) (unchanged v (v .state) refl))
+    (control-busy v major minor (a .id) fs (ap isIdle (state-is (a .c)) ∙ sym (c .before .before .before .is-idle .ensures) ∙ c .before .before .if1 .left))
+
+pub control-spec : {M : Type 1} → statement M
+control-spec =
+    tie.close
+    (tie.spec
+    is-idle-requires
+    not-valid-in-state-requires
+    failed-requires
+    returns
+    list-active-requires
+    succeeded-requires
+    returns-2)

@@ -1,0 +1,3 @@
+mod Loading
+mod Saving
+pub mod Theorems

@@ -1,0 +1,26 @@
+/* What `play` does with the calls that write: each buffer lent, and after the call's own line a line `touched` where it left anything else than
+ * it may. */
+#ifndef CALLS_H
+#define CALLS_H
+
+#include "command.h"
+
+/* Before any opening the channel is the one that a refused opening gives. */
+void calls_begin(void);
+
+void play_open(const struct command *c);
+void play_message(const struct command *c);
+void play_report(const struct command *c);
+void play_respond(const struct command *c);
+void play_complete(const struct command *c);
+
+/* `channel`, `number`, `numbers` and `show` */
+void play_channel(const struct command *c);
+void play_number(const struct command *c);
+void play_numbers(const struct command *c);
+void play_show(const struct command *c);
+
+/* Writes `touched` where this does not hold. */
+void play_check(int holds);
+
+#endif

@@ -1,0 +1,146 @@
+#include "command.h"
+
+#include <stdlib.h>
+#include <string.h>
+
+struct command command_make(void) {
+  struct command c = {.bytes = malloc(MOST_BYTES)};
+  if (!c.bytes) {
+    perror("no memory for a line");
+    exit(1);
+  }
+  return c;
+}
+
+static uint32_t number32(const struct script *s, const char *word) { return (uint32_t)script_number(s, word, UINT32_MAX); }
+
+static size_t room_of(const struct script *s, const char *word) { return (size_t)script_number(s, word, MOST_ROOM); }
+
+/* the parts of a list `7,8`; `-` has none */
+static char *parts_of(char *word) { return strcmp(word, "-") == 0 ? NULL : word; }
+
+/* the first of them, which is taken from the rest; NULL where there is none */
+static char *next_part(char **rest) {
+  char *part = *rest;
+  if (!part) return NULL;
+  char *comma = strchr(part, ',');
+  if (comma) *comma = 0;
+  *rest = comma ? comma + 1 : NULL;
+  return part;
+}
+
+/* frame, read and open HEX */
+static void take_bytes(const struct script *s, struct command *c) { c->count = script_bytes(s, s->word[1], c->bytes); }
+
+/* message ROOM HEX */
+static void take_message(const struct script *s, struct command *c) {
+  c->room = room_of(s, s->word[1]);
+  c->count = script_bytes(s, s->word[2], c->bytes);
+}
+
+/* report CAUSE ROOM */
+static void take_report(const struct script *s, struct command *c) {
+  c->cause = number32(s, s->word[1]);
+  c->room = room_of(s, s->word[2]);
+}
+
+static klarvesimo_responder *responder(const struct script *s, const char *state) {
+  if (strcmp(state, "PENDING") == 0) return klarvesimo_write_pending;
+  if (strcmp(state, "IN-PROGRESS") == 0) return klarvesimo_write_in_progress;
+  if (strcmp(state, "COMPLETE") == 0) return klarvesimo_write_complete;
+  script_unreadable(s, "no such request state");
+  return NULL;
+}
+
+/* respond STATE STATUS ID HEX IDS ROOM */
+static void take_respond(const struct script *s, struct command *c) {
+  c->respond = responder(s, s->word[1]);
+  c->status = (uint32_t)script_number(s, s->word[2], 999);
+  c->id = number32(s, s->word[3]);
+  c->count = script_bytes(s, s->word[4], c->bytes);
+  c->listed = 0;
+  char *rest = parts_of(s->word[5]);
+  for (char *part; (part = next_part(&rest));) {
+    if (c->listed == KLARVESIMO_MOST_HELD) script_unreadable(s, "more than 16 ids");
+    c->ids[c->listed++] = number32(s, part);
+  }
+  c->room = room_of(s, s->word[6]);
+}
+
+/* complete CAUSE ID HEX ROOM */
+static void take_complete(const struct script *s, struct command *c) {
+  c->cause = number32(s, s->word[1]);
+  c->id = number32(s, s->word[2]);
+  c->count = script_bytes(s, s->word[3], c->bytes);
+  c->room = room_of(s, s->word[4]);
+}
+
+static uint64_t state_of(const struct script *s, const char *word) {
+  if (strcmp(word, "idle") == 0) return 0;
+  if (strcmp(word, "speaking") == 0) return 1;
+  if (strcmp(word, "paused") == 0) return 2;
+  return script_number(s, word, UINT64_MAX);
+}
+
+/* `7+,8-` into the queue's numbers: how many */
+static uint64_t queue_of(const struct script *s, char *word, uint64_t *queue) {
+  uint64_t count = 0;
+  char *rest = parts_of(word);
+  for (char *part; (part = next_part(&rest));) {
+    size_t end = strlen(part);
+    char sign = end > 0 ? part[end - 1] : 0;
+    if (sign != '+' && sign != '-') script_unreadable(s, "a queue entry without `+` or `-`");
+    if (count == KLARVESIMO_MOST_HELD) script_unreadable(s, "more than 16 queue entries");
+    part[end - 1] = 0;
+    queue[count++] = script_number(s, part, UINT64_MAX / 2) * 2 + (sign == '+');
+  }
+  return count;
+}
+
+/* channel HEX STATE LAST QUEUE [COUNT]: the size is that of the name given, of its bytes as many as fit are kept */
+static void take_channel(const struct script *s, struct command *c) {
+  uint64_t *to = c->channel;
+  memset(to, 0, sizeof c->channel);
+  size_t size = script_bytes(s, s->word[1], c->bytes);
+  to[KLARVESIMO_CHANNEL_STATE] = state_of(s, s->word[2]);
+  if (strcmp(s->word[3], "-") != 0) to[KLARVESIMO_CHANNEL_LAST] = script_number(s, s->word[3], UINT64_MAX - 1) + 1;
+  to[KLARVESIMO_CHANNEL_COUNT] = queue_of(s, s->word[4], to + KLARVESIMO_CHANNEL_QUEUE);
+  if (s->words == 6) to[KLARVESIMO_CHANNEL_COUNT] = script_number(s, s->word[5], UINT64_MAX);
+  to[KLARVESIMO_CHANNEL_SIZE] = size;
+  for (size_t i = 0; i < size && KLARVESIMO_CHANNEL_NAME + i < KLARVESIMO_CHANNEL; i++) to[KLARVESIMO_CHANNEL_NAME + i] = c->bytes[i];
+}
+
+/* number PLACE VALUE */
+static void take_number(const struct script *s, struct command *c) {
+  c->place = (size_t)script_number(s, s->word[1], KLARVESIMO_CHANNEL - 1);
+  c->value = script_number(s, s->word[2], UINT64_MAX);
+}
+
+static void take_nothing(const struct script *s, struct command *c) { (void)s, (void)c; }
+
+static const struct {
+  const char *name;
+  enum verb verb;
+  int fewest, most; /* words */
+  void (*take)(const struct script *s, struct command *c);
+} commands[] = {
+    {"frame", COMMAND_FRAME, 2, 2, take_bytes},         {"read", COMMAND_READ, 2, 2, take_bytes},
+    {"open", COMMAND_OPEN, 2, 2, take_bytes},           {"message", COMMAND_MESSAGE, 3, 3, take_message},
+    {"report", COMMAND_REPORT, 3, 3, take_report},      {"respond", COMMAND_RESPOND, 7, 7, take_respond},
+    {"complete", COMMAND_COMPLETE, 5, 5, take_complete}, {"channel", COMMAND_CHANNEL, 5, 6, take_channel},
+    {"number", COMMAND_NUMBER, 3, 3, take_number},      {"numbers", COMMAND_NUMBERS, 1, 1, take_nothing},
+    {"show", COMMAND_SHOW, 1, 1, take_nothing},
+};
+
+int command_next(struct script *s, struct command *c) {
+  if (!script_next(s)) return 0;
+  for (size_t i = 0; i < sizeof commands / sizeof *commands; i++)
+    if (strcmp(s->word[0], commands[i].name) == 0) {
+      if (s->words < commands[i].fewest || s->words > commands[i].most) script_unreadable(s, "this command wants another number of words");
+      c->verb = commands[i].verb;
+      commands[i].take(s, c);
+      return 1;
+    }
+  script_unreadable(s, "no such command");
+  return 0;
+}

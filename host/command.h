@@ -1,0 +1,48 @@
+/* The commands of the script language, as second/README.md describes them. */
+#ifndef COMMAND_H
+#define COMMAND_H
+
+#include <stddef.h>
+#include <stdint.h>
+
+#include "../include/klarvesimo.h"
+#include "script.h"
+#include "writing.h"
+
+enum { MOST_ROOM = 1000000 };
+
+enum verb {
+  COMMAND_FRAME,
+  COMMAND_READ,
+  COMMAND_OPEN,
+  COMMAND_MESSAGE,
+  COMMAND_REPORT,
+  COMMAND_RESPOND,
+  COMMAND_COMPLETE,
+  COMMAND_CHANNEL,
+  COMMAND_NUMBER,
+  COMMAND_NUMBERS,
+  COMMAND_SHOW
+};
+
+struct command {
+  enum verb verb;
+  uint8_t *bytes; /* the input, or a name */
+  size_t count;
+  size_t room;
+  uint32_t cause, id, status;
+  klarvesimo_responder *respond;
+  uint32_t ids[KLARVESIMO_MOST_HELD]; /* of `respond` */
+  size_t listed;
+  uint64_t channel[KLARVESIMO_CHANNEL]; /* of `channel` */
+  size_t place;                         /* of `number` */
+  uint64_t value;
+};
+
+/* Room for a command's bytes. */
+struct command command_make(void);
+
+/* The next command; 0 at the end. An unreadable line ends the program with status 2. */
+int command_next(struct script *s, struct command *c);
+
+#endif

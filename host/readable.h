@@ -1,0 +1,18 @@
+/* Bytes and refusals for people. */
+#ifndef READABLE_H
+#define READABLE_H
+
+#include <stddef.h>
+#include <stdint.h>
+#include <stdio.h>
+
+/* What cannot be printed is escaped. */
+void write_readable(FILE *to, const uint8_t *bytes, size_t count);
+
+/* The bytes after an arrow, on standard output, CRLF as line ends, each line indented. */
+void write_arrow(const char *arrow, const uint8_t *bytes, size_t count);
+
+/* In the words of document 01. */
+const char *refusal_meaning(uint32_t number);
+
+#endif

@@ -1,0 +1,249 @@
+/* tell [FILE]: plays a script on the proved library and writes it for people: what comes in after `->`, what is written after `<-`, refusals with their
+ * meaning, and at the end what became of each prompt. That, and after every call the balance of the ledger, is taken from inputs, numbers returned
+ * and bytes written alone. Status 2 with the line's number where a line cannot be read, 3 where the ledger is out of balance. */
+#define _POSIX_C_SOURCE 200809L
+#include <inttypes.h>
+#include <stdlib.h>
+#include <string.h>
+
+#include "channel.h"
+#include "command.h"
+#include "fates.h"
+#include "ledger.h"
+#include "message.h"
+#include "readable.h"
+
+enum { NO_ROOM = 7, OUT_OF_BALANCE = 3, FATE = 80 };
+
+static struct script script;
+static uint64_t channel[KLARVESIMO_CHANNEL];
+static uint8_t out[MOST_ROOM];
+static struct ledger ledger;
+static int checked = 1; /* not from a line that sets the channel to the next `open`: nothing was accepted then */
+
+static void write_refused(uint32_t number) { printf("   refused %" PRIu32 ": %s\n\n", number, refusal_meaning(number)); }
+
+static void write_channel(FILE *to) {
+  uint8_t name[LONGEST_NAME];
+  fputs("channel `", to);
+  write_readable(to, name, channel_name(channel, name));
+  fputs("` ", to);
+  channel_write_state(to, channel);
+  fputs(", last id ", to);
+  channel_write_last(to, channel);
+  fputs(", queue ", to);
+  channel_write_queue(to, channel, " count ");
+}
+
+static char *title;
+static size_t title_size;
+
+static FILE *title_begin(void) {
+  FILE *to = open_memstream(&title, &title_size);
+  if (!to) {
+    perror("tell: no memory for a title");
+    exit(1);
+  }
+  return to;
+}
+
+static void title_end(FILE *to) {
+  fclose(to);
+  fates_chapter(title);
+}
+
+static void tell_frame(const struct command *c) {
+  uint64_t numbers[KLARVESIMO_FRAME_NUMBERS];
+  write_arrow("frame:", c->bytes, c->count);
+  uint32_t number = klarvesimo_frame(c->bytes, c->count, numbers, KLARVESIMO_FRAME_NUMBERS);
+  if (number)
+    write_refused(number);
+  else
+    printf("   a frame of %" PRIu64 " of %zu bytes\n\n", numbers[KLARVESIMO_FRAME_LENGTH], c->count);
+}
+
+static void tell_read(const struct command *c) {
+  static const char *const kinds[] = {"", "a request", "a response", "an event"};
+  uint64_t numbers[KLARVESIMO_MOST], consumed;
+  write_arrow("read:", c->bytes, c->count);
+  uint32_t number = klarvesimo_read(c->bytes, c->count, numbers, KLARVESIMO_MOST, &consumed);
+  if (number) {
+    write_refused(number);
+    return;
+  }
+  printf("   %s of %" PRIu64 " bytes, ", kinds[numbers[KLARVESIMO_KIND]], consumed);
+  if (numbers[KLARVESIMO_GOOD])
+    printf("%" PRIu64 " fields, body %" PRIu64 "\n\n", numbers[KLARVESIMO_FIELDS], numbers[KLARVESIMO_BODY_LENGTH]);
+  else
+    puts("bad fields\n");
+}
+
+static void tell_open(const struct command *c) {
+  uint32_t number = klarvesimo_open(channel, c->bytes, c->count);
+  FILE *to = title_begin();
+  fputs(number ? "channel `" : "channel ", to);
+  write_readable(to, c->bytes, c->count);
+  if (number) fputc('`', to);
+  fflush(to);
+  printf("== %s %s", title, number ? "not opened\n" : "opened\n\n");
+  if (number) write_refused(number), fputs(", not opened", to);
+  title_end(to);
+  ledger_clear(&ledger);
+  checked = 1;
+}
+
+/* the ledger's word about a call, which ends the program where it is out of balance */
+static void enter(const struct entry *e) {
+  uint64_t held[KLARVESIMO_MOST_HELD], count;
+  if (!checked) return;
+  klarvesimo_held(channel, held, KLARVESIMO_MOST_HELD, &count);
+  if (!ledger_enter(&ledger, e) || !ledger_balances(&ledger, held, count)) script_fail(&script, OUT_OF_BALANCE, ledger.wrong);
+}
+
+static void write_answer(uint32_t number, uint64_t written, size_t room) {
+  if (written > room) script_fail(&script, OUT_OF_BALANCE, "more bytes are said to be written than were lent");
+  if (number == 0) /* it ends with its own empty line */
+    write_arrow("<-", out, (size_t)written);
+  else if (number == NO_ROOM)
+    printf("   refused %d: %s of %zu\n\n", NO_ROOM, refusal_meaning(NO_ROOM), room);
+  else
+    write_refused(number);
+}
+
+/* why a SPEAK was not accepted: the status written, or the refusal */
+static void note_not_accepted(uint32_t id, uint32_t number, size_t written) {
+  uint64_t answer[KLARVESIMO_MOST], consumed;
+  char fate[FATE] = "not accepted, answered with something else";
+  if (number)
+    snprintf(fate, sizeof fate, "not accepted, refused %" PRIu32, number);
+  else if (klarvesimo_read(out, written, answer, KLARVESIMO_MOST, &consumed) == 0 && answer[KLARVESIMO_KIND] == RESPONSE)
+    snprintf(fate, sizeof fate, "not accepted, %" PRIu64, answer[KLARVESIMO_STATUS]);
+  fates_add(id, fate);
+}
+
+/* what a message from the client tells of prompts */
+static void note_message(const struct command *c, uint32_t number, size_t written, const struct entry *e) {
+  uint64_t in[KLARVESIMO_MOST], consumed;
+  char fate[FATE];
+  if (klarvesimo_read(c->bytes, c->count, in, KLARVESIMO_MOST, &consumed) != 0 || in[KLARVESIMO_KIND] != REQUEST) return;
+  const char *method = (const char *)c->bytes + in[KLARVESIMO_NAME];
+  snprintf(fate, sizeof fate, "stopped by %.*s %" PRIu64, (int)in[KLARVESIMO_NAME_LENGTH], method, in[KLARVESIMO_ID]);
+  if (e->kind == ENTRY_ACCEPTED)
+    fates_accepted(e->ids[0]);
+  else if (e->kind == ENTRY_CLOSED)
+    fates_close(e->ids, e->count, fate);
+  else if (message_is(c->bytes, in, "SPEAK"))
+    note_not_accepted((uint32_t)in[KLARVESIMO_ID], number, written);
+}
+
+static void tell_message(const struct command *c) {
+  uint64_t frame[KLARVESIMO_FRAME_NUMBERS], counts[2];
+  int framed = klarvesimo_frame(c->bytes, c->count, frame, KLARVESIMO_FRAME_NUMBERS) == 0;
+  size_t length = framed ? (size_t)frame[KLARVESIMO_FRAME_LENGTH] : c->count;
+  write_arrow("->", c->bytes, length);
+  if (length < c->count) printf("   (and %zu bytes after the message)\n", c->count - length);
+  uint32_t number = klarvesimo_handle(channel, c->bytes, c->count, out, c->room, counts);
+  write_answer(number, counts[KLARVESIMO_WRITTEN], c->room);
+  size_t written = (size_t)counts[KLARVESIMO_WRITTEN];
+  struct entry e = entry_of_message(c->bytes, c->count, number, out, written);
+  note_message(c, number, written, &e);
+  enter(&e);
+}
+
+/* the cause that the event names */
+static void note_report(size_t written, const struct entry *e) {
+  uint64_t event[KLARVESIMO_MOST], consumed;
+  char fate[FATE] = "spoken, no cause";
+  if (e->kind != ENTRY_CLOSED) return;
+  int read = klarvesimo_read(out, written, event, KLARVESIMO_MOST, &consumed) == 0;
+  const uint64_t *cause = read ? message_field(out, event, "Completion-Cause") : NULL;
+  if (cause) snprintf(fate, sizeof fate, "spoken, %.*s", (int)cause[1], (const char *)out + cause[0]);
+  fates_close(e->ids, e->count, fate);
+}
+
+static void tell_report(const struct command *c) {
+  static const char *const causes[] = {"normal", "barge-in",             "parse-failure",        "uri-failure",
+                                       "error",  "language-unsupported", "lexicon-load-failure", "cancelled"};
+  uint64_t written;
+  const char *word = c->cause < sizeof causes / sizeof *causes ? causes[c->cause] : "no such cause";
+  printf("** the engine reports %03" PRIu32 " %s\n", c->cause, word);
+  uint32_t number = klarvesimo_report(channel, c->cause, out, c->room, &written);
+  write_answer(number, written, c->room);
+  struct entry e = entry_of_report(number, out, (size_t)written);
+  note_report((size_t)written, &e);
+  enter(&e);
+}
+
+/* a message outside any channel */
+static void tell_written(uint32_t number, uint64_t written) {
+  fputs("== written: ", stdout);
+  if (number)
+    printf("refused, %s", refusal_meaning(number));
+  else
+    write_readable(stdout, out, (size_t)written);
+  puts("\n");
+}
+
+static void tell_respond(const struct command *c) {
+  uint64_t written;
+  uint32_t number = c->respond(c->bytes, c->count, c->id, c->status, c->ids, c->listed, out, c->room, &written);
+  tell_written(number, written);
+}
+
+static void tell_complete(const struct command *c) {
+  uint64_t written;
+  uint32_t number = klarvesimo_write_event(c->bytes, c->count, c->id, c->cause, out, c->room, &written);
+  tell_written(number, written);
+}
+
+static void set_by_the_script(void) {
+  FILE *to = title_begin();
+  fputs("set by the script: ", to);
+  write_channel(to);
+  fflush(to);
+  printf("== %s\n\n", title);
+  title_end(to);
+  checked = 0;
+}
+
+static void tell_channel(const struct command *c) {
+  memcpy(channel, c->channel, sizeof channel);
+  set_by_the_script();
+}
+
+static void tell_number(const struct command *c) {
+  channel[c->place] = c->value;
+  set_by_the_script();
+}
+
+static void tell_numbers(const struct command *c) {
+  (void)c;
+  fputs("== numbers", stdout);
+  channel_write_numbers(stdout, channel);
+  puts("\n");
+}
+
+static void tell_show(const struct command *c) {
+  (void)c;
+  fputs("== now: ", stdout);
+  write_channel(stdout);
+  puts("\n");
+}
+
+static void (*const tells[])(const struct command *c) = {
+    [COMMAND_FRAME] = tell_frame,       [COMMAND_READ] = tell_read,       [COMMAND_OPEN] = tell_open,
+    [COMMAND_MESSAGE] = tell_message,   [COMMAND_REPORT] = tell_report,   [COMMAND_RESPOND] = tell_respond,
+    [COMMAND_COMPLETE] = tell_complete, [COMMAND_CHANNEL] = tell_channel, [COMMAND_NUMBER] = tell_number,
+    [COMMAND_NUMBERS] = tell_numbers,   [COMMAND_SHOW] = tell_show,
+};
+
+int main(int words, char **word) {
+  script = script_open("tell", words - 1, word + 1);
+  struct command c = command_make();
+  FILE *to = title_begin();
+  fputs("before any opening", to);
+  title_end(to);
+  while (command_next(&script, &c)) tells[c.verb](&c);
+  fates_write();
+  return script_end(&script);
+}
