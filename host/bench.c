@@ -1,10 +1,13 @@
-/* bench CASE COUNT: makes COUNT calls of one case, for a tool that counts instructions. The cases are those of the second program's `bench`. */
+/* bench CASE COUNT: makes COUNT calls of one case, for a tool that counts instructions. The cases are those of the second program's `bench`.
+ * bench CASE stack: the bytes of stack that one such call takes.
+ * bench channel: the bytes of a channel. */
 #include <inttypes.h>
 #include <stdio.h>
 #include <stdlib.h>
 #include <string.h>
 
 #include "../include/klarvesimo.h"
+#include "stack.h"
 #include "writing.h"
 
 #define CHANNEL_NAME "7f3a@speechsynth"
@@ -15,6 +18,10 @@ enum { MOST = 20000, ALL = KLARVESIMO_CHANNEL * sizeof(uint64_t) };
 static uint8_t message[MOST], out[KLARVESIMO_LONGEST_ANSWER];
 static size_t length;
 static uint64_t prepared[KLARVESIMO_CHANNEL]; /* the channel as it is before each call */
+
+/* what a call is lent and gives: in no function's frame, so that the stack which is measured is the library's own */
+static uint64_t channel[KLARVESIMO_CHANNEL], numbers[KLARVESIMO_MOST], counts[2];
+static uint32_t ids[KLARVESIMO_MOST_HELD], number;
 
 /* a message that has come to its text, filled to `size` bytes by its body */
 static void message_is(const char *text, size_t size) {
@@ -43,23 +50,43 @@ static void request(const char *method, unsigned id, const char *rest) {
 
 static void speak(unsigned id) { request("SPEAK", id, "Content-Type:text/plain\r\nContent-Length:2\r\n\r\nHi"); }
 
-/* one call on the channel, which must be handled: how many bytes it wrote */
-static uint64_t handled(uint64_t *channel) {
-  uint64_t counts[2];
-  if (klarvesimo_handle(channel, message, length, out, sizeof out, counts) != 0) exit(1);
-  return counts[KLARVESIMO_WRITTEN];
+/* one call each */
+static void frames(void) { number = klarvesimo_frame(message, length, numbers, KLARVESIMO_FRAME_NUMBERS); }
+static void reads(void) { number = klarvesimo_read(message, length, numbers, KLARVESIMO_MOST, counts); }
+static void opens(void) { number = klarvesimo_open(channel, (const uint8_t *)CHANNEL_NAME, sizeof CHANNEL_NAME - 1); }
+static void handles(void) { number = klarvesimo_handle(channel, message, length, out, sizeof out, counts); }
+static void reports(void) { number = klarvesimo_report(channel, 0, out, sizeof out, counts); }
+static void asks_held(void) { number = klarvesimo_held(channel, numbers, KLARVESIMO_MOST_HELD, counts); }
+static void responds(void) {
+  number = klarvesimo_write_in_progress((const uint8_t *)CHANNEL_NAME, sizeof CHANNEL_NAME - 1, 7, 200, ids, 0, out, sizeof out, counts);
+}
+static void responds_longest(void) {
+  static const uint8_t name[] = "0123456789abcdef0123456789abcdef@speechsynth";
+  number = klarvesimo_write_complete(name, sizeof name - 1, UINT32_MAX, 200, ids, KLARVESIMO_MOST_HELD, out, sizeof out, counts);
 }
 
-static uint64_t reported(uint64_t *channel) {
-  uint64_t written;
-  if (klarvesimo_report(channel, 0, out, sizeof out, &written) != 0) exit(1);
-  return written;
+static void refused(void) {
+  fprintf(stderr, "bench: a call is refused with %" PRIu32 "\n", number);
+  exit(1);
+}
+
+/* the call, which must be handled */
+static inline void made(void (*call)(void)) {
+  call();
+  if (number != 0) refused();
+}
+
+/* a step of the preparation */
+static void prepare_by(void (*call)(void)) {
+  memcpy(channel, prepared, ALL);
+  made(call);
+  memcpy(prepared, channel, ALL);
 }
 
 /* a channel with this many outstanding, from 1 on */
 static void prepare(unsigned outstanding) {
-  if (klarvesimo_open(prepared, (const uint8_t *)CHANNEL_NAME, strlen(CHANNEL_NAME)) != 0) exit(1);
-  for (unsigned id = 1; id <= outstanding; id++) speak(id), handled(prepared);
+  prepare_by(opens);
+  for (unsigned id = 1; id <= outstanding; id++) speak(id), prepare_by(handles);
 }
 
 /* a channel with one outstanding after so many calls: a SPEAK, and then SPEAK, CONTROL and a report in turn. The ids have one width. */
@@ -67,62 +94,13 @@ static void prepare_after(unsigned calls) {
   prepare(0);
   for (unsigned call = 0; call < calls; call++) {
     if (call % 3 == 0 && call > 0)
-      reported(prepared);
+      prepare_by(reports);
     else if (call % 3 == 2)
-      request("CONTROL", 1000000 + call, "\r\n"), handled(prepared);
+      request("CONTROL", 1000000 + call, "\r\n"), prepare_by(handles);
     else
-      speak(1000000 + call), handled(prepared);
+      speak(1000000 + call), prepare_by(handles);
   }
   speak(2000000);
-}
-
-/* the bytes written by `count` calls, each on a copy of the channel that was prepared */
-static uint64_t calls(uint64_t (*call)(uint64_t *channel), long count) {
-  uint64_t channel[KLARVESIMO_CHANNEL], sum = 0;
-  for (long i = 0; i < count; i++) {
-    memcpy(channel, prepared, ALL);
-    sum += call(channel);
-  }
-  return sum;
-}
-
-static uint64_t frames(long count) {
-  uint64_t numbers[KLARVESIMO_FRAME_NUMBERS], sum = 0;
-  for (long i = 0; i < count; i++) {
-    if (klarvesimo_frame(message, length, numbers, KLARVESIMO_FRAME_NUMBERS) != 0) exit(1);
-    sum += numbers[KLARVESIMO_FRAME_LENGTH];
-  }
-  return sum;
-}
-
-static uint64_t reads(long count) {
-  uint64_t numbers[KLARVESIMO_MOST], consumed, sum = 0;
-  for (long i = 0; i < count; i++) {
-    if (klarvesimo_read(message, length, numbers, KLARVESIMO_MOST, &consumed) != 0) exit(1);
-    sum += consumed;
-  }
-  return sum;
-}
-
-static uint64_t handles(long count) { return calls(handled, count); }
-
-static uint64_t reports(long count) { return calls(reported, count); }
-
-static uint64_t responses(klarvesimo_responder *respond, const char *name, uint32_t id, size_t listed, long count) {
-  uint32_t ids[KLARVESIMO_MOST_HELD];
-  uint64_t written, sum = 0;
-  for (uint32_t i = 0; i < KLARVESIMO_MOST_HELD; i++) ids[i] = UINT32_MAX - KLARVESIMO_MOST_HELD + i;
-  for (long i = 0; i < count; i++) {
-    if (respond((const uint8_t *)name, strlen(name), id, 200, ids, listed, out, sizeof out, &written) != 0) exit(1);
-    sum += written;
-  }
-  return sum;
-}
-
-static uint64_t writes(long count) { return responses(klarvesimo_write_in_progress, CHANNEL_NAME, 7, 0, count); }
-
-static uint64_t writes_longest(long count) {
-  return responses(klarvesimo_write_complete, "0123456789abcdef0123456789abcdef@speechsynth", UINT32_MAX, KLARVESIMO_MOST_HELD, count);
 }
 
 static const char SEVENTEEN[] =
@@ -137,48 +115,86 @@ static void read_20(void) { speak_of(SEVENTEEN, "463", "2"); }
 static void read_2(void) { speak_of("", "00112", "00002"); }
 static void read_16000(void) { speak_of("", "16110", "16000"); }
 static void nothing(void) {}
+static void longest_ids(void) {
+  for (uint32_t i = 0; i < KLARVESIMO_MOST_HELD; i++) ids[i] = UINT32_MAX - KLARVESIMO_MOST_HELD + i;
+}
 static void call_speak(void) { prepare(0), read_3(); }
 static void call_stop(void) { prepare(16), request("STOP", 17, "\r\n"); }
 static void call_stop_list(void) {
   prepare(16);
   request("STOP", 17, "Active-Request-Id-List:16,15,14,13,12,11,10,9,8,7,6,5,4,3,2,1\r\n\r\n");
 }
-static void call_report_1(void) { prepare(1); }
-static void call_report_16(void) { prepare(16); }
+static void one_outstanding(void) { prepare(1); }
+static void sixteen_outstanding(void) { prepare(16); }
 static void call_after_1(void) { prepare_after(1); }
 static void call_after_1000(void) { prepare_after(1000); }
 
-static const struct {
+/* the sum of the lengths that so many calls give; where the channel changes, each on a copy of the one that was prepared */
+static inline uint64_t sum_of(void (*call)(void), const uint64_t *gives, int changes, long count) {
+  uint64_t sum = 0;
+  for (long i = 0; i < count; i++) {
+    if (changes) memcpy(channel, prepared, ALL);
+    made(call);
+    sum += *gives;
+  }
+  return sum;
+}
+
+/* a loop for each, so that what is counted beside the call is little */
+static uint64_t run_frames(long count) { return sum_of(frames, numbers + KLARVESIMO_FRAME_LENGTH, 0, count); }
+static uint64_t run_reads(long count) { return sum_of(reads, counts, 0, count); }
+static uint64_t run_responds(long count) { return sum_of(responds, counts, 0, count); }
+static uint64_t run_responds_longest(long count) { return sum_of(responds_longest, counts, 0, count); }
+static uint64_t run_opens(long count) { return sum_of(opens, channel + KLARVESIMO_CHANNEL_SIZE, 0, count); }
+static uint64_t run_handles(long count) { return sum_of(handles, counts + KLARVESIMO_WRITTEN, 1, count); }
+static uint64_t run_reports(long count) { return sum_of(reports, counts, 1, count); }
+static uint64_t run_asks_held(long count) { return sum_of(asks_held, counts, 0, count); }
+
+static const struct bench {
   const char *name;
   void (*make)(void);
-  uint64_t (*run)(long count); /* the sum of the lengths that the calls give */
+  void (*call)(void);
+  uint64_t (*run)(long count);
 } cases[] = {
-    {"frame-31", frame_31, frames},
-    {"frame-16384", frame_16384, frames},
-    {"read-3", read_3, reads},
-    {"read-20", read_20, reads},
-    {"read-2", read_2, reads},
-    {"read-16000", read_16000, reads},
-    {"write-t8", nothing, writes},
-    {"write-305", nothing, writes_longest},
-    {"call-speak", call_speak, handles},
-    {"call-stop-16", call_stop, handles},
-    {"call-stop-list-16", call_stop_list, handles},
-    {"call-report-1", call_report_1, reports},
-    {"call-report-16", call_report_16, reports},
-    {"call-after-1", call_after_1, handles},
-    {"call-after-1000", call_after_1000, handles},
+    {"frame-31", frame_31, frames, run_frames},
+    {"frame-16384", frame_16384, frames, run_frames},
+    {"read-3", read_3, reads, run_reads},
+    {"read-20", read_20, reads, run_reads},
+    {"read-2", read_2, reads, run_reads},
+    {"read-16000", read_16000, reads, run_reads},
+    {"write-t8", nothing, responds, run_responds},
+    {"write-305", longest_ids, responds_longest, run_responds_longest},
+    {"call-open", nothing, opens, run_opens},
+    {"call-speak", call_speak, handles, run_handles},
+    {"call-stop-16", call_stop, handles, run_handles},
+    {"call-stop-list-16", call_stop_list, handles, run_handles},
+    {"call-report-1", one_outstanding, reports, run_reports},
+    {"call-report-16", sixteen_outstanding, reports, run_reports},
+    {"call-held-16", sixteen_outstanding, asks_held, run_asks_held},
+    {"call-after-1", call_after_1, handles, run_handles},
+    {"call-after-1000", call_after_1000, handles, run_handles},
 };
 
-int main(int words, char **word) {
-  for (size_t i = 0; words == 3 && i < sizeof cases / sizeof *cases; i++)
-    if (strcmp(word[1], cases[i].name) == 0) {
-      cases[i].make();
-      printf("%" PRIu64 "\n", cases[i].run(atol(word[2])));
-      return 0;
-    }
-  fputs("usage: bench CASE COUNT, where CASE is", stderr);
+static const struct bench *case_of(const char *name) {
+  for (size_t i = 0; i < sizeof cases / sizeof *cases; i++)
+    if (strcmp(name, cases[i].name) == 0) return &cases[i];
+  return NULL;
+}
+
+static int usage(void) {
+  fputs("usage: bench CASE COUNT, bench CASE stack, or bench channel, where CASE is", stderr);
   for (size_t i = 0; i < sizeof cases / sizeof *cases; i++) fprintf(stderr, " %s", cases[i].name);
   fputc('\n', stderr);
   return 2;
+}
+
+int main(int words, char **word) {
+  if (words == 2 && strcmp(word[1], "channel") == 0) return printf("%zu\n", (size_t)ALL) < 0;
+  const struct bench *b = words == 3 ? case_of(word[1]) : NULL;
+  if (!b) return usage();
+  b->make();
+  if (strcmp(word[2], "stack") != 0) return printf("%" PRIu64 "\n", b->run(atol(word[2]))) < 0;
+  b->run(1); /* so that what the loader does at a first call is done */
+  memcpy(channel, prepared, ALL);
+  return printf("%zu\n", stack_taken(b->call)) < 0;
 }

@@ -1,12 +1,8 @@
-/* What `play` does with the calls that write: each buffer lent, and after the call's own line a line `touched` where it left anything else than
- * it may. */
+/* What `play` does with the calls that write: the call's own line, and a line `touched` where it did not keep what it promises. */
 #ifndef CALLS_H
 #define CALLS_H
 
 #include "command.h"
-
-/* Before any opening the channel is the one that a refused opening gives. */
-void calls_begin(void);
 
 void play_open(const struct command *c);
 void play_message(const struct command *c);

@@ -13,10 +13,12 @@ static unsigned char *start[BUFFERS];
 static size_t mapped;
 static int at_front;
 
+void lend_turn(int front) { at_front = front; }
+
 void lend_begin(size_t most, int front) {
   size_t page = (size_t)sysconf(_SC_PAGESIZE);
   mapped = (most + page - 1) / page * page;
-  at_front = front;
+  lend_turn(front);
   for (int which = 0; which < BUFFERS; which++) {
     unsigned char *all = mmap(NULL, mapped + 2 * page, PROT_NONE, MAP_PRIVATE | MAP_ANONYMOUS, -1, 0);
     if (all == MAP_FAILED || mprotect(all + page, mapped, PROT_READ | PROT_WRITE) != 0) {

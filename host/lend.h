@@ -11,6 +11,9 @@ enum buffer { INPUT, OUTPUT, IDS, CHANNEL, COUNTS, BUFFERS };
  * the memory cannot be had. */
 void lend_begin(size_t most, int front);
 
+/* From now on what is lent stands against the page in front, or behind. What was lent before is taken back. */
+void lend_turn(int front);
+
 /* `size` bytes, filled. What was lent of the same buffer before is taken back. */
 void *lend(enum buffer which, size_t size);
 

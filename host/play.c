@@ -6,14 +6,14 @@
 #include <string.h>
 
 #include "calls.h"
+#include "checked.h"
 #include "lend.h"
 
 static void play_frame(const struct command *c) {
-  const uint8_t *bytes = lend_copy(INPUT, c->bytes, c->count);
-  uint64_t *out = lend(OUTPUT, KLARVESIMO_FRAME_NUMBERS * sizeof *out);
-  uint32_t number = klarvesimo_frame(bytes, c->count, out, KLARVESIMO_FRAME_NUMBERS);
-  printf("frame %" PRIu32 " %" PRIu64 "\n", number, number ? 0 : out[KLARVESIMO_FRAME_LENGTH]);
-  play_check(!number || lend_untouched(out, KLARVESIMO_FRAME_NUMBERS * sizeof *out));
+  uint64_t numbers[KLARVESIMO_FRAME_NUMBERS];
+  struct checked call = checked_frame(c->bytes, c->count, numbers);
+  printf("frame %" PRIu32 " %" PRIu64 "\n", call.number, call.number ? 0 : numbers[KLARVESIMO_FRAME_LENGTH]);
+  play_check(call.holds);
 }
 
 static void write_part(const uint8_t *bytes, const uint64_t *place) { script_write(bytes + place[0], (size_t)place[1]); }
@@ -42,50 +42,21 @@ static void write_fields(const uint8_t *bytes, const uint64_t *out) {
   putchar('\n');
 }
 
-/* the stated length, as framing alone gives it, on 0 and 5 */
-static uint64_t consumed_by(uint32_t number, const uint8_t *bytes, size_t count) {
-  uint64_t frame[KLARVESIMO_FRAME_NUMBERS] = {0};
-  if (number == 0 || number == 5) klarvesimo_frame(bytes, count, frame, KLARVESIMO_FRAME_NUMBERS);
-  return frame[KLARVESIMO_FRAME_LENGTH];
-}
-
-/* Reads into an output of `room` numbers, which becomes the numbers written; whether all else is as promised. */
-static int reads(uint32_t *number, const uint8_t *bytes, size_t count, size_t room, uint64_t *numbers) {
-  uint64_t *out = lend(OUTPUT, room * sizeof *out), *consumed = lend(COUNTS, sizeof *consumed);
-  *number = klarvesimo_read(bytes, count, out, room, consumed);
-  size_t written = *number ? 0 : (size_t)(KLARVESIMO_HEAD + 4 * out[KLARVESIMO_FIELDS]);
-  if (written > room) return 0;
-  memcpy(numbers, out, written * sizeof *out);
-  return *consumed == consumed_by(*number, bytes, count) && lend_untouched(out + written, (room - written) * sizeof *out);
-}
-
-/* the same numbers from an output that is exactly as long as needed, and 7 from one that is a number short */
-static int reads_again(const uint8_t *bytes, size_t count, const uint64_t *first) {
-  uint64_t again[KLARVESIMO_MOST];
-  size_t needed = (size_t)(KLARVESIMO_HEAD + 4 * first[KLARVESIMO_FIELDS]);
-  uint32_t number;
-  if (!reads(&number, bytes, count, needed, again) || number != 0 || memcmp(first, again, needed * sizeof *again) != 0) return 0;
-  return reads(&number, bytes, count, needed - 1, again) && number == 7;
-}
-
 static void play_read(const struct command *c) {
-  uint64_t out[KLARVESIMO_MOST];
-  uint32_t number;
-  const uint8_t *bytes = lend_copy(INPUT, c->bytes, c->count);
-  int holds = reads(&number, bytes, c->count, KLARVESIMO_MOST, out);
-  printf("read %" PRIu32, number);
-  if (number) {
+  uint64_t numbers[KLARVESIMO_MOST];
+  struct checked call = checked_read(c->bytes, c->count, numbers);
+  printf("read %" PRIu32, call.number);
+  if (call.number || !call.holds) {
     putchar('\n');
-    play_check(holds);
+    play_check(call.holds);
     return;
   }
-  printf(" %" PRIu64 " ", consumed_by(number, bytes, c->count));
-  write_start(bytes, out);
-  if (out[KLARVESIMO_GOOD])
-    write_fields(bytes, out);
+  printf(" %" PRIu64 " ", call.consumed);
+  write_start(c->bytes, numbers);
+  if (numbers[KLARVESIMO_GOOD])
+    write_fields(c->bytes, numbers);
   else
     puts("bad");
-  play_check(holds && reads_again(bytes, c->count, out));
 }
 
 static void (*const plays[])(const struct command *c) = {
@@ -100,7 +71,7 @@ int main(int words, char **word) {
   struct script s = script_open("play", words - 1 - front, word + 1 + front);
   struct command c = command_make();
   lend_begin(MOST_BYTES, front);
-  calls_begin();
+  checked_begin();
   while (command_next(&s, &c)) plays[c.verb](&c);
   return script_end(&s);
 }

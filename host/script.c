@@ -5,6 +5,8 @@
 #include <string.h>
 #include <sys/types.h>
 
+#include "number.h"
+
 struct script script_open(const char *program, int words, char **word) {
   struct script s = {.program = program, .from = stdin};
   if (words > 1) {
@@ -81,13 +83,8 @@ static int digit(char c) {
 
 uint64_t script_number(const struct script *s, const char *word, uint64_t most) {
   uint64_t value = 0;
-  if (*word == 0) script_unreadable(s, "a number is missing");
-  for (; *word; word++) {
-    if (*word < '0' || *word > '9') script_unreadable(s, "a word that is no number");
-    uint64_t last = (uint64_t)(*word - '0');
-    if (last > most || value > (most - last) / 10) script_unreadable(s, "a number that is too great");
-    value = value * 10 + last;
-  }
+  const char *wrong = number_read(word, most, &value);
+  if (wrong) script_unreadable(s, wrong);
   return value;
 }
 

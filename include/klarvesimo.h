@@ -103,7 +103,7 @@ enum {
   KLARVESIMO_CHANNEL_NAME = 20,  /* 44 numbers: the name, a byte in each */
   KLARVESIMO_CHANNEL = 64        /* how many numbers there are */
 };
-enum { KLARVESIMO_MOST_HELD = 16, KLARVESIMO_LONGEST_ANSWER = 305 };
+enum { KLARVESIMO_MOST_HELD = 16, KLARVESIMO_LONGEST_MESSAGE = 16384, KLARVESIMO_LONGEST_ANSWER = 305 };
 
 /* Opens a channel: idle, with nothing outstanding and no request seen. 0; or 10, and then the name in the channel is empty, so it is not
  * sound. All 64 numbers are written in either case. */

@@ -2,7 +2,7 @@
 
 use std::hint::black_box;
 
-use crate::kept::Kept;
+use crate::kept::{self, Kept};
 use crate::start_line::RequestState;
 use crate::states::Ids;
 use crate::writing::{with_own_digits, Answer, Outgoing};
@@ -164,8 +164,33 @@ fn reads(case: &str, message: &[u8], count: usize) -> Option<usize> {
     Some(sum)
 }
 
+/// Opening a channel; the length of its name.
+fn opens(count: usize) -> usize {
+    let mut sum = 0;
+    for _ in 0..count {
+        let (channel, number) = black_box(Kept::open(black_box(NAME)));
+        sum += channel.0[kept::SIZE] as usize + number as usize;
+    }
+    sum
+}
+
+/// Asking for the ids of sixteen; how many there are.
+fn helds(count: usize) -> Option<usize> {
+    let channel = prepared(16)?;
+    let mut sum = 0;
+    for _ in 0..count {
+        sum += black_box(black_box(&channel).held())?.len();
+    }
+    Some(sum)
+}
+
 /// Makes the calls and gives the sum of the lengths; None for a case that there is not.
 pub fn run(case: &str, count: usize) -> Option<usize> {
+    match case {
+        "call-open" => return Some(opens(count)),
+        "call-held-16" => return helds(count),
+        _ => {}
+    }
     if let Some((name, answer)) = answer_of(case) {
         return write(&name, answer, count);
     }

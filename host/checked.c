@@ -1,0 +1,202 @@
+#include "checked.h"
+
+#include <string.h>
+
+#include "channel.h"
+#include "lend.h"
+#include "message.h"
+
+enum { MALFORMED = 5, NO_REQUEST = 6, NO_ROOM = 7, NO_CAUSE = 9, NOT_SOUND = 21, CAUSES = 8, ALL = KLARVESIMO_CHANNEL * sizeof(uint64_t) };
+enum { LONGEST_OPENING = 31, LONGEST_MESSAGE = 16384, MOST_FIELDS = (KLARVESIMO_MOST - KLARVESIMO_HEAD) / 4 };
+
+/* lent for as long as it is in use, and again at each opening */
+static uint64_t *channel;
+
+void checked_begin(void) { channel = memset(lend(CHANNEL, ALL), 0, ALL); }
+
+uint64_t *checked_channel(void) { return channel; }
+
+int checked_written(uint32_t number, const uint8_t *out, uint64_t written, size_t room) {
+  return written <= room && (number == 0 || written == 0) && lend_untouched(out + written, room - (size_t)written);
+}
+
+/* the stated length, as framing alone gives it, where the message was taken */
+static uint64_t consumed_by(uint32_t number, const uint8_t *bytes, size_t count) {
+  uint64_t frame[KLARVESIMO_FRAME_NUMBERS] = {0};
+  if (number == 0 || number == MALFORMED || number == NO_REQUEST) klarvesimo_frame(bytes, count, frame, KLARVESIMO_FRAME_NUMBERS);
+  return frame[KLARVESIMO_FRAME_LENGTH];
+}
+
+static int frame_fits(const uint64_t *frame, size_t count) {
+  uint64_t opening = frame[KLARVESIMO_FRAME_OPENING], length = frame[KLARVESIMO_FRAME_LENGTH];
+  return opening <= LONGEST_OPENING && opening <= length && length <= LONGEST_MESSAGE && length <= count;
+}
+
+struct checked checked_frame(const uint8_t *from, size_t count, uint64_t *numbers) {
+  enum { SIZE = KLARVESIMO_FRAME_NUMBERS * sizeof(uint64_t) };
+  struct checked c = {0};
+  const uint8_t *bytes = lend_copy(INPUT, from, count);
+  uint64_t *out = lend(OUTPUT, SIZE);
+  c.number = klarvesimo_frame(bytes, count, out, KLARVESIMO_FRAME_NUMBERS);
+  c.holds = c.number ? lend_untouched(out, SIZE) : frame_fits(out, count);
+  memcpy(numbers, out, SIZE);
+  out = lend(OUTPUT, SIZE - sizeof *out); /* a number short */
+  uint32_t number = klarvesimo_frame(bytes, count, out, KLARVESIMO_FRAME_NUMBERS - 1);
+  c.holds &= number == (c.number ? c.number : NO_ROOM) && lend_untouched(out, SIZE - sizeof *out) && memcmp(bytes, from, count) == 0;
+  return c;
+}
+
+static int inside(const uint64_t *part, uint64_t size) { return part[0] <= size && part[1] <= size - part[0]; }
+
+/* no number leads out of the message or out of its range */
+static int numbers_fit(const uint64_t *out, uint64_t size) {
+  int fit = out[KLARVESIMO_KIND] >= REQUEST && out[KLARVESIMO_KIND] <= EVENT && out[KLARVESIMO_STATE] <= 3 && out[KLARVESIMO_STATUS] <= 999 &&
+            out[KLARVESIMO_ID] <= UINT32_MAX && out[KLARVESIMO_GOOD] <= 1 && inside(out + KLARVESIMO_NAME, size) && inside(out + KLARVESIMO_BODY, size);
+  for (uint64_t f = 0; f < out[KLARVESIMO_FIELDS]; f++)
+    fit &= inside(out + KLARVESIMO_HEAD + 4 * f, size) && inside(out + KLARVESIMO_HEAD + 4 * f + 2, size);
+  return fit;
+}
+
+/* Reads into an output of `room` numbers, which becomes the numbers written. */
+static struct checked reads(const uint8_t *bytes, size_t count, size_t room, uint64_t *numbers) {
+  uint64_t *out = lend(OUTPUT, room * sizeof *out), *consumed = lend(COUNTS, sizeof *consumed);
+  struct checked c = {.number = klarvesimo_read(bytes, count, out, room, consumed)};
+  size_t written = 0;
+  c.consumed = *consumed;
+  if (c.number == 0) {
+    if (room < KLARVESIMO_HEAD || out[KLARVESIMO_FIELDS] > MOST_FIELDS) return c;
+    written = (size_t)(KLARVESIMO_HEAD + 4 * out[KLARVESIMO_FIELDS]);
+    if (written > room || !numbers_fit(out, c.consumed)) return c;
+  }
+  memcpy(numbers, out, written * sizeof *out);
+  c.holds = c.consumed == consumed_by(c.number, bytes, count) && lend_untouched(out + written, (room - written) * sizeof *out);
+  return c;
+}
+
+/* the same numbers from an output that is exactly as long as needed, and 7 from one that is a number short */
+static int reads_again(const uint8_t *bytes, size_t count, const uint64_t *first) {
+  uint64_t again[KLARVESIMO_MOST];
+  size_t needed = (size_t)(KLARVESIMO_HEAD + 4 * first[KLARVESIMO_FIELDS]);
+  struct checked c = reads(bytes, count, needed, again);
+  if (!c.holds || c.number != 0 || memcmp(first, again, needed * sizeof *again) != 0) return 0;
+  c = reads(bytes, count, needed - 1, again);
+  return c.holds && c.number == NO_ROOM;
+}
+
+struct checked checked_read(const uint8_t *from, size_t count, uint64_t *numbers) {
+  const uint8_t *bytes = lend_copy(INPUT, from, count);
+  struct checked c = reads(bytes, count, KLARVESIMO_MOST, numbers);
+  if (c.holds && c.number == 0) c.holds = reads_again(bytes, count, numbers);
+  c.holds &= memcmp(bytes, from, count) == 0;
+  return c;
+}
+
+/* klarvesimo_held with `room` gives the number, and on 0 the ids of the channel's own queue and no more */
+static int held_gives(uint32_t number, size_t room) {
+  uint64_t held = number ? 0 : channel[KLARVESIMO_CHANNEL_COUNT];
+  uint64_t *ids = lend(IDS, room * sizeof *ids), *count = lend(COUNTS, sizeof *count);
+  if (klarvesimo_held(channel, ids, room, count) != number || *count != held) return 0;
+  for (uint64_t i = 0; i < held; i++)
+    if (ids[i] != channel[KLARVESIMO_CHANNEL_QUEUE + i] / 2) return 0;
+  return lend_untouched(ids + held, (room - held) * sizeof *ids);
+}
+
+/* with room to spare, with just enough and with one too few; where the channel is not sound, whatever the room */
+static int held_agrees(int sound) {
+  uint64_t before[KLARVESIMO_CHANNEL], count = channel[KLARVESIMO_CHANNEL_COUNT];
+  memcpy(before, channel, ALL);
+  int agrees = sound ? count <= KLARVESIMO_MOST_HELD && held_gives(0, KLARVESIMO_MOST_HELD) && held_gives(0, (size_t)count) &&
+                           (count == 0 || held_gives(NO_ROOM, (size_t)count - 1))
+                     : held_gives(NOT_SOUND, KLARVESIMO_MOST_HELD) && held_gives(NOT_SOUND, 0);
+  return agrees && memcmp(before, channel, ALL) == 0;
+}
+
+struct checked checked_held(size_t room) {
+  uint64_t before[KLARVESIMO_CHANNEL], written;
+  struct checked c = {0};
+  memcpy(before, channel, ALL);
+  /* a cause above 7 is refused whatever the channel, but for one that is not sound */
+  uint32_t refused = klarvesimo_report(channel, CAUSES, NULL, 0, &written);
+  if (refused == NOT_SOUND)
+    c.number = NOT_SOUND;
+  else if (channel[KLARVESIMO_CHANNEL_COUNT] > room)
+    c.number = NO_ROOM;
+  c.holds = (refused == NOT_SOUND || refused == NO_CAUSE) && held_gives(c.number, room) && memcmp(before, channel, ALL) == 0;
+  return c;
+}
+
+static int zero(size_t from, size_t to) {
+  for (size_t i = from; i < to; i++)
+    if (channel[i] != 0) return 0;
+  return 1;
+}
+
+/* a refused call leaves every number as it was, a handled one 0 past count and size */
+static int channel_agrees(uint32_t number, const uint64_t *before) {
+  if (number) return memcmp(channel, before, ALL) == 0;
+  uint64_t count = channel[KLARVESIMO_CHANNEL_COUNT], size = channel[KLARVESIMO_CHANNEL_SIZE];
+  return count <= KLARVESIMO_MOST_HELD && size <= LONGEST_NAME && zero(KLARVESIMO_CHANNEL_QUEUE + (size_t)count, KLARVESIMO_CHANNEL_NAME) &&
+         zero(KLARVESIMO_CHANNEL_NAME + (size_t)size, KLARVESIMO_CHANNEL);
+}
+
+/* the message says that it is of this channel */
+static int names_channel(const uint8_t *bytes, const uint64_t *numbers) {
+  uint8_t name[LONGEST_NAME];
+  size_t size = channel_name(channel, name);
+  const uint64_t *part = message_field(bytes, numbers, "Channel-Identifier");
+  return part && part[1] == size && memcmp(bytes + part[0], name, size) == 0;
+}
+
+/* what was written is read as a whole message of this kind, with this id and good fields */
+static int reads_back(const struct checked *c, uint64_t kind, uint64_t id) {
+  uint64_t numbers[KLARVESIMO_MOST], consumed;
+  return klarvesimo_read(c->out, (size_t)c->written, numbers, KLARVESIMO_MOST, &consumed) == 0 && consumed == c->written &&
+         numbers[KLARVESIMO_KIND] == kind && numbers[KLARVESIMO_ID] == id && numbers[KLARVESIMO_GOOD] == 1 && numbers[KLARVESIMO_MAJOR] == 2 &&
+         numbers[KLARVESIMO_MINOR] == 0 && numbers[KLARVESIMO_BODY_LENGTH] == 0 && names_channel(c->out, numbers);
+}
+
+/* what an answer of handle is to have kept, beside the bytes of out past it */
+static int handle_agrees(const struct checked *c, const uint8_t *bytes, size_t count, const uint64_t *before) {
+  uint64_t request[KLARVESIMO_MOST], consumed;
+  if (c->consumed > count || c->consumed != consumed_by(c->number, bytes, count) || !channel_agrees(c->number, before)) return 0;
+  if (c->number == 0 && (klarvesimo_read(bytes, count, request, KLARVESIMO_MOST, &consumed) != 0 || request[KLARVESIMO_KIND] != REQUEST ||
+                         !reads_back(c, RESPONSE, request[KLARVESIMO_ID])))
+    return 0;
+  return held_agrees(c->number != NOT_SOUND);
+}
+
+struct checked checked_open(const uint8_t *from, size_t length) {
+  uint64_t expected[KLARVESIMO_CHANNEL] = {0};
+  const uint8_t *name = lend_copy(INPUT, from, length);
+  channel = lend(CHANNEL, ALL);
+  struct checked c = {.number = klarvesimo_open(channel, name, length)};
+  if (c.number == 0) expected[KLARVESIMO_CHANNEL_SIZE] = length;
+  for (size_t i = 0; c.number == 0 && i < length && i < LONGEST_NAME; i++) expected[KLARVESIMO_CHANNEL_NAME + i] = from[i];
+  c.holds = memcmp(channel, expected, ALL) == 0 && memcmp(name, from, length) == 0 && held_agrees(c.number == 0);
+  return c;
+}
+
+struct checked checked_handle(const uint8_t *from, size_t count, size_t room) {
+  uint64_t before[KLARVESIMO_CHANNEL], *counts = lend(COUNTS, 2 * sizeof *counts);
+  const uint8_t *bytes = lend_copy(INPUT, from, count);
+  uint8_t *out = lend(OUTPUT, room);
+  memcpy(before, channel, ALL);
+  struct checked c = {.number = klarvesimo_handle(channel, bytes, count, out, room, counts), .out = out};
+  c.consumed = counts[KLARVESIMO_CONSUMED];
+  if (!checked_written(c.number, out, counts[KLARVESIMO_WRITTEN], room)) return c;
+  c.written = counts[KLARVESIMO_WRITTEN];
+  c.holds = handle_agrees(&c, bytes, count, before) && memcmp(bytes, from, count) == 0;
+  return c;
+}
+
+struct checked checked_report(uint32_t cause, size_t room) {
+  uint64_t before[KLARVESIMO_CHANNEL], *written = lend(COUNTS, sizeof *written);
+  uint8_t *out = lend(OUTPUT, room);
+  memcpy(before, channel, ALL);
+  struct checked c = {.number = klarvesimo_report(channel, cause, out, room, written), .out = out};
+  if (!checked_written(c.number, out, *written, room)) return c;
+  c.written = *written;
+  c.holds = channel_agrees(c.number, before) && (c.number != 0 || reads_back(&c, EVENT, before[KLARVESIMO_CHANNEL_QUEUE] / 2)) &&
+            held_agrees(c.number != NOT_SOUND);
+  return c;
+}

@@ -1,0 +1,31 @@
+/* A list of commands as bytes, the input of the fuzzer: any bytes are such a list.
+ *
+ * A command begins with a byte whose last three bits say which it is. Then come its numbers, each in groups of seven bits, the lowest first, with
+ * the eighth bit set where another group follows; and its bytes, behind their count:
+ *
+ *    0 frame BYTES   1 read BYTES   2 open BYTES   3 message ROOM BYTES   4 report CAUSE ROOM   5 number PLACE VALUE   6 channel VALUE... (64)
+ *    7 show ROOM, which asks what the channel holds
+ *
+ * A room is cut at INPUT_MOST_ROOM, a count at what is there. Where the fourth bit of the first byte is set, the bytes get in front of them the opening
+ * that fits, so that a change of their number leaves them a message. */
+#ifndef INPUT_H
+#define INPUT_H
+
+#include <stdio.h>
+
+#include "command.h"
+
+enum { INPUT_MOST_ROOM = 4096, INPUT_LONGEST_OPENING = 31 };
+
+struct input {
+  const uint8_t *at;
+  size_t left;
+};
+
+/* The next command; 0 at the end. Its bytes have room for all that is left, and INPUT_LONGEST_OPENING. */
+int input_next(struct input *in, struct command *c);
+
+/* Writes a command so that it is read again, but for a room that is cut; nothing where such a list does not have it. */
+void input_put(FILE *to, const struct command *c);
+
+#endif
