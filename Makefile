@@ -3,7 +3,7 @@
 # make build    the proved library, the host programs over it, the second program
 # make bench    what a call costs: instructions, against the second program, and bytes of stack
 # make soak     the library beside the second program on scripts from fresh seeds, for SECONDS=60
-# make fuzz     the C face under libFuzzer, for SECONDS=60
+# make fuzz     the C face under libFuzzer, for SECONDS=60; make check-fuzz: it finds faults that are planted
 # make pictures the pictures of docs/, from the files that they are about
 # make install  the header, the library and its pkg-config file below PREFIX, in DESTDIR where that is given
 VERSION = 0.1.0
@@ -20,7 +20,7 @@ INPUTS = host/inputs.c host/input.c $(SCRIPTS)
 TELL = host/tell.c host/readable.c host/fates.c host/ledger.c $(SCRIPTS)
 BOARD = host/board.c host/connection.c host/engine.c host/number.c host/readable.c
 
-.PHONY: all build library host second bench soak fuzz pictures install test fmt clean
+.PHONY: all build library host second bench soak fuzz check-fuzz pictures install test fmt clean
 
 all: library
 	@$(MAKE) --silent host
@@ -72,6 +72,9 @@ soak: build
 
 fuzz: build
 	@tools/fuzz target/fuzz target/staticlib target/host $(SECOND) $(SECONDS)
+
+check-fuzz: build
+	@tools/check-fuzz target/staticlib target/host $(SECOND)
 
 pictures:
 	@mkdir -p target
