@@ -31,8 +31,7 @@ build: library second
 
 # what it writes is shown only where it fails
 library:
-	@mkdir -p target
-	@for crate in klarvesimo firmware writing; do rt staticlib $$crate >target/library.log 2>&1 || { cat target/library.log >&2; exit 1; }; done
+	@tools/build-library klarvesimo firmware writing
 
 # after the library, which takes longer: the targets above make it first
 host:

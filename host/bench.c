@@ -58,11 +58,11 @@ static void handles(void) { number = klarvesimo_handle(channel, message, length,
 static void reports(void) { number = klarvesimo_report(channel, 0, out, sizeof out, counts); }
 static void asks_held(void) { number = klarvesimo_held(channel, numbers, KLARVESIMO_MOST_HELD, counts); }
 static void responds(void) {
-  number = klarvesimo_write_in_progress((const uint8_t *)CHANNEL_NAME, sizeof CHANNEL_NAME - 1, 7, 200, ids, 0, out, sizeof out, counts);
+  number = klarvesimo_write_response((const uint8_t *)CHANNEL_NAME, sizeof CHANNEL_NAME - 1, 7, 200, 2, ids, 0, out, sizeof out, counts);
 }
 static void responds_longest(void) {
   static const uint8_t name[] = "0123456789abcdef0123456789abcdef@speechsynth";
-  number = klarvesimo_write_complete(name, sizeof name - 1, UINT32_MAX, 200, ids, KLARVESIMO_MOST_HELD, out, sizeof out, counts);
+  number = klarvesimo_write_response(name, sizeof name - 1, UINT32_MAX, 200, 3, ids, KLARVESIMO_MOST_HELD, out, sizeof out, counts);
 }
 
 static void refused(void) {

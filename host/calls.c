@@ -6,6 +6,7 @@
 #include "channel.h"
 #include "checked.h"
 #include "lend.h"
+#include "writing.h"
 
 void play_check(int holds) {
   if (!holds) puts("touched");
@@ -48,7 +49,7 @@ void play_respond(const struct command *c) {
   const uint32_t *ids = lend_copy(IDS, c->ids, c->listed * sizeof *ids);
   uint8_t *out = lend(OUTPUT, c->room);
   uint64_t *written = lend(COUNTS, sizeof *written);
-  uint32_t number = c->respond(name, c->count, c->id, c->status, ids, c->listed, out, c->room, written);
+  uint32_t number = klarvesimo_write_response(name, c->count, c->id, c->status, c->state, ids, c->listed, out, c->room, written);
   printf("respond %" PRIu32 " ", number);
   end_written(number, out, *written, c->room);
 }

@@ -44,17 +44,18 @@ static void take_report(const struct script *s, struct command *c) {
   c->room = room_of(s, s->word[2]);
 }
 
-static klarvesimo_responder *responder(const struct script *s, const char *state) {
-  if (strcmp(state, "PENDING") == 0) return klarvesimo_write_pending;
-  if (strcmp(state, "IN-PROGRESS") == 0) return klarvesimo_write_in_progress;
-  if (strcmp(state, "COMPLETE") == 0) return klarvesimo_write_complete;
+/* as KLARVESIMO_STATE numbers them */
+static uint32_t request_state(const struct script *s, const char *word) {
+  if (strcmp(word, "PENDING") == 0) return 1;
+  if (strcmp(word, "IN-PROGRESS") == 0) return 2;
+  if (strcmp(word, "COMPLETE") == 0) return 3;
   script_unreadable(s, "no such request state");
-  return NULL;
+  return 0;
 }
 
 /* respond STATE STATUS ID HEX IDS ROOM */
 static void take_respond(const struct script *s, struct command *c) {
-  c->respond = responder(s, s->word[1]);
+  c->state = request_state(s, s->word[1]);
   c->status = (uint32_t)script_number(s, s->word[2], 999);
   c->id = number32(s, s->word[3]);
   c->count = script_bytes(s, s->word[4], c->bytes);

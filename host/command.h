@@ -7,7 +7,6 @@
 
 #include "../include/klarvesimo.h"
 #include "script.h"
-#include "writing.h"
 
 enum { MOST_ROOM = 1000000 };
 
@@ -31,8 +30,7 @@ struct command {
   size_t count;
   size_t room;
   uint32_t cause, id, status;
-  klarvesimo_responder *respond;
-  uint32_t ids[KLARVESIMO_MOST_HELD]; /* of `respond` */
+  uint32_t state, ids[KLARVESIMO_MOST_HELD]; /* of `respond` */
   size_t listed;
   uint64_t channel[KLARVESIMO_CHANNEL]; /* of `channel` */
   size_t place;                         /* of `number` */

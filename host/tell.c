@@ -12,6 +12,7 @@
 #include "ledger.h"
 #include "message.h"
 #include "readable.h"
+#include "writing.h"
 
 enum { NO_ROOM = 7, OUT_OF_BALANCE = 3, FATE = 80 };
 
@@ -186,7 +187,7 @@ static void tell_written(uint32_t number, uint64_t written) {
 
 static void tell_respond(const struct command *c) {
   uint64_t written;
-  uint32_t number = c->respond(c->bytes, c->count, c->id, c->status, c->ids, c->listed, out, c->room, &written);
+  uint32_t number = klarvesimo_write_response(c->bytes, c->count, c->id, c->status, c->state, c->ids, c->listed, out, c->room, &written);
   tell_written(number, written);
 }
 

@@ -2,7 +2,7 @@
 use Prim.Native.Nat.{ℕ, zero, suc, _≤_, _<_}
 use mathlib.Core.Path.{_≡_, refl}
 use native.Mathlib.Omega.{arith}
-use Rattle.answer.specs.Delivery.{causeNumber, causeAt}
+use Rattle.answer.specs.Causes.{causeNumber, causeAt}
 use Rattle.answer.specs.declared.Cause.{Cause}
 use Rattle.answer.specs.declared.Reported.{Reported}
 

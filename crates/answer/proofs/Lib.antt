@@ -6,9 +6,6 @@ pub mod Frames
 pub mod Reading
 pub mod Values
 pub mod Sizes
-pub mod Pieces
-pub mod Listing
-pub mod Delivered
 pub mod Answers
 pub mod Theorems
 pub mod Causes

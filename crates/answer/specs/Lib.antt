@@ -1,6 +1,5 @@
 pub mod Written
 pub mod IdList
 pub mod Answers
+pub mod Causes
 pub mod Writable
-pub mod Delivery
-pub mod Steps

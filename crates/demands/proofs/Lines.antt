@@ -1,6 +1,6 @@
 -- What the definition of a call gives is what the first line of the table that is due says, and where none is, the outcome. Assumes nothing.
 use Prim.Native.Nat.{ℕ, _≤_}
-use mathlib.Core.Path.{_≡_, refl, sym, ap, _∙_}
+use mathlib.Core.Path.{_≡_, refl, sym, ap, subst, _∙_}
 use mathlib.Core.Bool.{Bool, true, false, false≢true}
 use mathlib.Core.Option.{Option, none, some}
 use mathlib.Core.List.{List, _∷_}
@@ -24,7 +24,7 @@ use Rattle.synth.specs.declared.State.{State}
 use Rattle.synth.specs.declared.State.the-variants.{Idle, Speaking, Paused}
 use Rattle.synth.specs.declared.Entry.{Entry}
 use Rattle.demands.specs.Demands.{Line, isSilent, ending, outcome, stated, table, firstDue}
-use Rattle.calls.proofs.Reports.{no-such-cause, idle-silent, paused-silent, speaking-completes, has-active}
+use Rattle.engine.proofs.Reports.{no-such-cause, idle-silent, paused-silent, speaking-completes, has-active}
 
 -- a refusal, which is no 0, and 21 only where the channel is not sound; or the outcome
 abbrev pub Gives : View → ℕ → Outcome → Option Line → Turn View Reply → Type 0
@@ -110,3 +110,9 @@ tabled v lent room = go (sound v) refl
     go : (b : Bool) → sound v ≡ b → Tabled v lent room
     go true e = on-sound v room e lent
     go false e = unsound v room lent e
+
+-- a line that is due has no 0
+pub not-0 : (v : View) (lent : Lent) (room : ℕ) (l : Line) → firstDue (table v lent room) ≡ some l → l .number ≡ 0 → ⊥
+not-0 v lent room l e z =
+    let g = subst (λ (o : Option Line). Gives v (stated lent) (outcome v lent) o (call v (record { lent = lent; room = room }))) e (tabled v lent room) in
+    false≢true (sym (g .1) ∙ ap (λ (n : ℕ). eqb n 0) z)

@@ -2,3 +2,6 @@ pub mod Demand1
 pub mod Demand3
 pub mod Soundness
 pub mod Demand3FromC
+pub mod Demand1FromC
+pub mod HeldFromC
+pub mod ReadBackFromC

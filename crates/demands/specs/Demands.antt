@@ -29,8 +29,6 @@ use Rattle.channel.specs.declared.Channel.{Channel}
 use Rattle.channel.specs.declared.Opening.{Opening}
 use Rattle.calls.specs.Promise.{Promise, leftIn}
 use Rattle.calls.specs.declared.Handled.{Handled}
-use Rattle.words.specs.Words.{viewOf}
-use Rattle.klarvesimo.specs.Face.{openFace, CallFace, callFace}
 
 -- a line of the table of refusals, by the paper's columns: its number, given exactly when it is due, and the input consumed
 pub record Line : Type 0 where
@@ -162,20 +160,3 @@ abbrev pub SoundOfTheCode : Type 0
 SoundOfTheCode = (name : List ℕ) (o : Opening) (calls : List (Seen Call Reply)) (last : Channel)
     → opened o ≡ openChannel name → o .number ≡ 0 → Run Called (o .channel) calls last
     → (sound (view last) ≡ true) × All (λ (x : Seen Call Reply). x .reply .number ≡ 21 → ⊥) calls
-
--- the ids that a channel holds whose 64 numbers the caller keeps; numbers that are no channel hold none
-abbrev pub heldIn : Option View → List ℕ
-heldIn none = []
-heldIn (some v) = held v
-
--- one call of the C face, `klarvesimo_handle` or `klarvesimo_report`, on the numbers ws, and what is seen of it from outside
-pub record CalledFromC (ws : List ℕ) (k : Call) (r : Reply) (next : List ℕ) : Type 0 where
-  pub out : List ℕ
-  pub room : k .room ≡ length out
-  pub seen : r ≡ (let f : CallFace = callFace ws (k .lent) out in record { number = f .number; consumed = f .consumed; written = take (f .written) (f .out) })
-  pub left : next ≡ callFace ws (k .lent) out .channel
-
--- Demand 3 as C sees it: for every list of calls on the numbers that `klarvesimo_open` gave, each call getting those that the last one left
-abbrev pub Demand3OfTheFace : Type 0
-Demand3OfTheFace = (name : List ℕ) (calls : List (Seen Call Reply)) (last : List ℕ)
-    → Run CalledFromC (openFace name .channel) calls last → Balanced accepts closes calls (heldIn (viewOf last))

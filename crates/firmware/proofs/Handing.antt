@@ -11,8 +11,9 @@ use Rattle.message.specs.Message as M
 use Rattle.message.specs.Reading.{fieldsFrom}
 use Rattle.message.specs.declared.Span.{Span}
 use Rattle.message.proofs.Says.{Judged, fields-from}
-use Rattle.header.specs.Header.{headerOf, fieldOf, noField}
-use Rattle.header.specs.declared.Field.{Field}
+use Rattle.fieldlines.specs.Steps.{fieldOf}
+use Rattle.header.specs.Header.{headerOf, noField}
+use Rattle.fieldlines.specs.declared.Field.{Field}
 use Rattle.header.specs.declared.Header.{Header}
 use Rattle.firmware.specs.Face.{handed, fieldNumbers, fieldsNumbers, goodNumber}
 use Rattle.firmware.specs.Steps.{numbersOf, headNumbers}

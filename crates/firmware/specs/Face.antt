@@ -12,7 +12,7 @@ use Rattle.message.specs.Reading.{reading}
 use Rattle.message.specs.declared.Span.{Span}
 use Rattle.message.specs.declared.RequestState.{RequestState}
 use Rattle.message.specs.declared.RequestState.the-variants.{Pending, InProgress, Complete}
-use Rattle.header.specs.Header.{maskWith, namesIn}
+use Rattle.names.specs.Names.{maskWith, namesIn}
 
 -- a call's number, and the numbers lent to it as it leaves them
 pub record Face : Type 0 where

@@ -117,7 +117,7 @@ fn good_number(good: bool) -> u64
 }
 
 // The four numbers of a field at `at`.
-fn put_field(out: &mut [u64], at: usize, x: header::Field)
+fn put_field(out: &mut [u64], at: usize, x: fieldlines::Field)
     requires { ⌜ at + 4 ≤ length (now out) ⌝ }
     ensures { λ _. ⌜ now (out .exit) ≡ take at (now (out .entry)) ++ (x .name .start ∷ x .name .len ∷ x .value .start ∷ x .value .len ∷ []) ++ drop (at + 4) (now (out .entry)) ⌝ }
 {

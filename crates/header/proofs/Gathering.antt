@@ -16,9 +16,11 @@ use Rattle.message.specs.Known.{knownOf, isKnown, among, onceEach, valueOf}
 use Rattle.message.specs.Reading.{agrees, judged}
 use Rattle.message.specs.declared.Span.{Span}
 use Rattle.message.specs.declared.Known.the-variants.{ContentLength}
-use Rattle.header.specs.Header.{noField, fieldOf, namesIn}
-use Rattle.header.specs.declared.Field.{Field}
-use Rattle.header.proofs.Marks.{twice-never}
+use Rattle.names.specs.Names.{namesIn}
+use Rattle.fieldlines.specs.Steps.{fieldOf}
+use Rattle.header.specs.Header.{noField}
+use Rattle.fieldlines.specs.declared.Field.{Field}
+use Rattle.names.proofs.Marks.{twice-never}
 use Rattle.header.proofs.Values.{asField}
 
 -- the first n fields, as the definition has them

@@ -1,13 +1,4 @@
-pub mod Runs
-pub mod Classed
 pub mod Numerals
-pub mod Names
-pub mod Places
-pub mod Masks
-pub mod Sets
-pub mod ByRuns
-pub mod Lining
-pub mod Marks
 pub mod Values
 pub mod Gathering
 pub mod Stepping

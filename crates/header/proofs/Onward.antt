@@ -2,7 +2,6 @@
 -- Assumes nothing.
 use mathlib.Core.Path.{_≡_, refl, sym, ap, ap₂, subst, _∙_}
 use mathlib.Core.Bool.{Bool, true, false, not, _&&_}
-use mathlib.Core.Option.{none, some}
 use mathlib.Core.List.{List, [], _∷_, _++_, map}
 use Prim.Native.Nat.{ℕ, _+_, _-_, _<_, _≤_}
 use native.Mathlib.Nat.{zero-add}
@@ -23,14 +22,15 @@ use Rattle.message.specs.declared.Span.{Span}
 use Rattle.message.specs.declared.Known.{Known}
 use Rattle.message.specs.declared.Known.the-variants.{ContentLength}
 use Rattle.message.proofs.Rows.{Laid, laid}
-use Rattle.header.specs.Header.{nowhere, noField, bitOf, maskWith, whichFrom, namesIn, headerOf}
-use Rattle.header.specs.Steps.{badHeader, knownBit, mayCome, stepOf, givenBy, foundBy, valueAt}
-use Rattle.header.specs.declared.Field.{Field}
+use Rattle.names.specs.Names.{bitOf, maskWith, whichFrom, namesIn}
+use Rattle.header.specs.Header.{nowhere, noField, headerOf}
+use Rattle.names.specs.Steps.{knownBit, mayCome}
+use Rattle.header.specs.Steps.{badHeader, stepOf, givenBy}
+use Rattle.fieldlines.specs.declared.Field.{Field}
 use Rattle.header.specs.declared.Step.{Step}
 use Rattle.header.specs.declared.Header.{Header}
-use Rattle.header.specs.declared.Found.{Found}
-use Rattle.header.proofs.Marks.{mask-last, which-last, mask-test, once-last, which-below}
-use Rattle.header.proofs.Values.{asField, laidOut, found-value}
+use Rattle.names.proofs.Marks.{mask-last, which-last, mask-test, once-last, which-below}
+use Rattle.header.proofs.Values.{asField, laidOut, given-value}
 use Rattle.header.proofs.Gathering.{gathered, as-were, gathered-more, blank-more, front, lines-malformed, lines-empty, lines-full, lines-field, lines-more}
 use Rattle.header.proofs.Stepping.{judgedStep, line-end, Comes, line-field}
 use Rattle.header.proofs.Gathering.{names-append, names-length, judged-twice, judged-by}
@@ -142,15 +142,10 @@ module _ (f : List ℕ) (at : ℕ) (h : Header) (i : ℕ) (o : Onward f at h i) 
   abbrev stated : List ℕ
   stated = part f (getD (h .fields) (getD (h .which) 1 0) noField .value)
 
-  given-length : valueOf ContentLength (map (onField (part f)) so) ≡ givenBy (h .mask) stated
+  given-length : valueOf ContentLength (map (onField (part f)) so) ≡ givenBy (h .mask) 2 stated
   given-length =
-      found-value f so (o .once) ContentLength refl
-      ∙ (λ z. valueAt f (laid-out z) (foundBy (sym (o .bits) z) (sym (o .numbers) z) ContentLength)) ∙ go (eqb (bitAnd (h .mask) 2) 0)
-    where
-      go : (t : Bool) → valueAt f (h .fields) (elim t [ true ↦ Found.Nothing | false ↦ Found.At (getD (h .which) 1 0) ])
-          ≡ elim t [ true ↦ none | false ↦ some stated ]
-      go true = refl
-      go false = refl
+      given-value f so (o .once) ContentLength refl
+      ∙ (λ z. givenBy (sym (o .bits) z) 2 (part f (getD (laid-out z) (getD (sym (o .numbers) z) 1 0) noField .value)))
 
   pub which-small : getD (h .which) 1 0 < 32
   which-small =
@@ -161,15 +156,15 @@ module _ (f : List ℕ) (at : ℕ) (h : Header) (i : ℕ) (o : Onward f at h i) 
     abbrev body : Span
     body = record { start = b; len = length f - b }
 
-    by-length : (t : Bool) → t ≡ agrees (givenBy (h .mask) stated) (length f - b)
+    by-length : (t : Bool) → t ≡ agrees (givenBy (h .mask) 2 stated) (length f - b)
         → headerOf f (elim t [ true ↦ good so body | false ↦ bad ]) ≡ headerOf f (fieldsFrom f at)
     by-length t m =
         ap (headerOf f) (sym (judged-by f so b (o .once) t (ap (λ v. agrees v (length f - b)) given-length ∙ sym m))) ∙ answer (lines so b) (ended r e b q)
 
-    pub bad-length : false ≡ agrees (givenBy (h .mask) stated) (length f - b) → badHeader ≡ headerOf f (fieldsFrom f at)
+    pub bad-length : false ≡ agrees (givenBy (h .mask) 2 stated) (length f - b) → badHeader ≡ headerOf f (fieldsFrom f at)
     bad-length m = by-length false m
 
-    pub good-length : true ≡ agrees (givenBy (h .mask) stated) (length f - b)
+    pub good-length : true ≡ agrees (givenBy (h .mask) 2 stated) (length f - b)
         → _≡_ {A = Header} (record { good = true; count = h .count; mask = h .mask; body = body; which = h .which; fields = h .fields }) (headerOf f (fieldsFrom f at))
     good-length m = same ∙ by-length true m
       where

@@ -12,10 +12,12 @@ use Rattle.message.specs.Fields.{empty, field}
 use Rattle.message.specs.Known.{knownOf}
 use Rattle.message.specs.declared.Span.{Span}
 use Rattle.message.specs.declared.Known.{Known}
-use Rattle.header.specs.Header.{fieldOf}
-use Rattle.header.specs.Steps.{lineOf, mayCome, stepOf}
-use Rattle.header.specs.declared.Field.{Field}
-use Rattle.header.specs.declared.Line.{Line}
+use Rattle.fieldlines.specs.Steps.{fieldOf}
+use Rattle.names.specs.Steps.{mayCome}
+use Rattle.fieldlines.specs.Steps.{lineOf}
+use Rattle.header.specs.Steps.{stepOf}
+use Rattle.fieldlines.specs.declared.Field.{Field}
+use Rattle.fieldlines.specs.declared.Line.{Line}
 use Rattle.header.specs.declared.Step.{Step}
 use Rattle.header.proofs.Values.{asField}
 

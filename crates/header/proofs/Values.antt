@@ -2,7 +2,7 @@
 -- Assumes nothing.
 use mathlib.Core.Path.{_≡_, refl, sym, ap, _∙_}
 use mathlib.Core.Bool.{Bool, true, false, not, _&&_, _||_, false≢true}
-use mathlib.Core.Option.{none, some}
+use mathlib.Core.Option.{Option, none, some}
 use mathlib.Core.List.{List, [], _∷_, _++_, map}
 use Prim.Native.Nat.{ℕ, suc, _+_, _-_, _<_}
 use native.Mathlib.Nat.{zero-add}
@@ -15,12 +15,14 @@ use Rattle.message.specs.Message.{Field, part, onField}
 use Rattle.message.specs.Known.{knownOf, indexOf, is, isKnown, among, onceEach, namesOf, valueOf}
 use Rattle.message.specs.declared.Known.{Known}
 use Rattle.message.specs.declared.Span.{Span}
-use Rattle.header.specs.Header.{noField, fieldOf, maskWith, whichFrom, namesIn}
-use Rattle.header.specs.Steps.{foundBy, valueAt}
-use Rattle.header.specs.declared.Field as H
-use Rattle.header.specs.declared.Found.{Found}
-use Rattle.header.proofs.Masks.{index-small}
-use Rattle.header.proofs.Marks.{among-same, known-same, which-kept, mask-test}
+use Rattle.names.specs.Names.{maskWith, whichFrom, namesIn}
+use Rattle.fieldlines.specs.Steps.{fieldOf}
+use Rattle.header.specs.Header.{noField}
+use Rattle.names.specs.Steps.{knownBit}
+use Rattle.header.specs.Steps.{givenBy}
+use Rattle.fieldlines.specs.declared.Field as H
+use Rattle.names.proofs.Masks.{index-small}
+use Rattle.names.proofs.Marks.{among-same, known-same, which-kept, mask-test}
 
 -- the code's field as the definition has it
 abbrev pub asField : H.Field → Field Span
@@ -34,7 +36,6 @@ pub record Named (k : Known) (ts : List (Field (List ℕ))) (j number : ℕ) : T
   pub place : ℕ
   pub numbered : number ≡ j + place
   pub inside : place < length ts
-  pub name : is k (knownOf (getD ts place noText .name)) ≡ true
   pub value : valueOf k ts ≡ some (getD ts place noText .value)
 
 module _ (k : Known) (known : isKnown k ≡ true) where
@@ -70,7 +71,6 @@ module _ (k : Known) (known : isKnown k ≡ true) where
         numbered = which-kept (suc j) (namesOf ts) (set w (indexOf n) j) k gone ∙ ap (λ i. getD (set w i j) (indexOf k) 0) (sym same)
             ∙ getD-set-same w (indexOf k) j 0 room ∙ omega arith;
         inside = omega arith;
-        name = e;
         value = value-here x ts e;
       }
 
@@ -90,7 +90,6 @@ module _ (k : Known) (known : isKnown k ≡ true) where
         place = suc (n .place);
         numbered = n .numbered ∙ omega arith;
         inside = omega (arith, n .inside);
-        name = n .name;
         value = value-later x ts e ∙ n .value;
       }
 
@@ -119,22 +118,18 @@ module _ (f : List ℕ) (fs : List (Field Span)) where
     pub came : among k (namesIn f fs) ≡ true → Named k texts 0 (getD which (indexOf k) 0)
     came h = which-finds k known texts 0 (replicate 16 0) refl once h
 
-    -- what is found, by whether the name is among them
-    abbrev found : Bool → Found
-    found b = elim (not b) [ true ↦ Found.Nothing | false ↦ Found.At (getD which (indexOf k) 0) ]
+    -- the place of its value, by the number that stands for it
+    abbrev valued : List ℕ
+    valued = part f (getD laidOut (getD which (indexOf k) 0) noField .value)
 
-    pub found-by : (b : Bool) → among k (namesIn f fs) ≡ b → foundBy mask which k ≡ found b
-    found-by b e =
-        ap {B = Found} (λ t. elim t [ true ↦ Found.Nothing | false ↦ Found.At (getD which (indexOf k) 0) ])
-        (mask-test (namesIn f fs) k ∙ ap (λ t. not (t && among k (namesIn f fs))) known ∙ ap not e)
-
-    pub found-value : valueOf k texts ≡ valueAt f laidOut (foundBy mask which k)
-    found-value = go (among k (namesIn f fs)) refl
+    pub given-value : valueOf k texts ≡ givenBy mask (knownBit k) valued
+    given-value = go (among k (namesIn f fs)) refl ∙ sym (ap {B = Option (List ℕ)} (λ t. elim t [ true ↦ none | false ↦ some valued ])
+        (mask-test (namesIn f fs) k ∙ ap (λ t. not (t && among k (namesIn f fs))) known))
       where
-        go : (b : Bool) → among k (namesIn f fs) ≡ b → valueOf k texts ≡ valueAt f laidOut (foundBy mask which k)
+        go : (b : Bool) → among k (namesIn f fs) ≡ b → valueOf k texts ≡ elim (not (among k (namesIn f fs))) [ true ↦ none | false ↦ some valued ]
         go true e =
             let n = came e in
             let p : getD which (indexOf k) 0 ≡ n .place = n .numbered ∙ zero-add (n .place) in
-            n .value ∙ ap (λ x. some (x .value)) (texts-at (n .place) (n .inside)) ∙ ap (λ j. valueAt f laidOut (Found.At j)) (sym p)
-            ∙ sym (ap (valueAt f laidOut) (found-by true e))
-        go false e = value-none k known texts e ∙ sym (ap (valueAt f laidOut) (found-by false e))
+            n .value ∙ ap (λ x. some (x .value)) (texts-at (n .place) (n .inside)) ∙ ap (λ j. some (part f (getD laidOut j noField .value))) (sym p)
+            ∙ sym (ap {B = Option (List ℕ)} (λ b. elim (not b) [ true ↦ none | false ↦ some valued ]) e)
+        go false e = value-none k known texts e ∙ sym (ap {B = Option (List ℕ)} (λ b. elim (not b) [ true ↦ none | false ↦ some valued ]) e)

@@ -16,8 +16,8 @@ use Rattle.synth.specs.Judgement.{Verdict, passes, fails, _then_, unless, versi
 use Rattle.synth.specs.States as S
 use Rattle.synth.specs.declared.Method.{Method}
 use Rattle.synth.specs.declared.LastId.the-variants.{Seen}
-use Rattle.methods.specs.Outcomes.{asked, Makes}
-use Rattle.methods.specs.declared.Outcome.{Outcome}
+use Rattle.outcomes.specs.Outcomes.{asked, Makes}
+use Rattle.outcomes.specs.declared.Outcome.{Outcome}
 
 -- a name that fits its array is compared whole
 pub name-told : (v : View) (x : List ℕ) {b : Bool} → length (v .name) ≤ 44 → b ≡ (leb (length (v .name)) 44 && same (v .name) x) → b ≡ same (v .name) x

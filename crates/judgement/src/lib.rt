@@ -14,8 +14,9 @@ ghost use Rattle.synth.specs.Judgement.{_then_, wellFormed, addressed, ours, ab
 ghost use Rattle.synth.specs.States.{afterEarly, judge as judged};
 ghost use Rattle.synth.specs.declared.Method.{Method};
 ghost use Rattle.channel.specs.Channel.{view};
-ghost use Rattle.request.specs.Telling.{Tells, givenOf, verdictOf};
-ghost use Rattle.methods.specs.Outcomes.{asked, Makes};
+ghost use Rattle.values.specs.Values.{givenOf, verdictOf};
+ghost use Rattle.request.specs.Telling.{Tells};
+ghost use Rattle.outcomes.specs.Outcomes.{asked, Makes};
 
 // 1. The version is 2.0, as numbers.
 fn is_current(major: u64, minor: u64) -> bool
@@ -28,34 +29,28 @@ fn is_current(major: u64, minor: u64) -> bool
 }
 
 // 4 and 5, of the Channel-Identifier `v`: it is this channel's name, and the id is above the last one seen.
-fn for_us(c: channel::Channel, v: &[u8], id: u32) -> request::Verdict
+fn for_us(c: channel::Channel, v: &[u8], id: u32) -> values::Verdict
     ensures { λ o. ⌜ ((major minor : ℕ) (m : Method) (fs : Fields (List ℕ)) → (let r = asked major minor m id fs in length (view c .name) ≤ 44 → some (now (v .entry)) ≡ acting ChannelIdentifier r → verdictOf o ≡ (ours (view c) r then above (view c) r))) ⌝ }
 {
     if !channel::has_name(c, v) {
-        return request::Verdict::Fails(answer::Status::no_such_channel());
+        return values::Verdict::Fails(answer::Status::no_such_channel());
     }
     if !channel::is_above(c, id) {
-        return request::Verdict::Fails(answer::Status::out_of_order());
+        return values::Verdict::Fails(answer::Status::out_of_order());
     }
-    request::Verdict::Passes
+    values::Verdict::Passes
 }
 
 // 2 to 5, of fields that are `good` or not, with the Channel-Identifier `name`.
-fn early(
-    c: channel::Channel,
-    f: &[u8],
-    good: bool,
-    name: request::Given,
-    id: u32,
-) -> request::Verdict
+fn early(c: channel::Channel, f: &[u8], good: bool, name: values::Given, id: u32) -> values::Verdict
     ensures { λ o. ⌜ ((major minor : ℕ) (m : Method) (fs : Fields (List ℕ)) → (let r = asked major minor m id fs in length (view c .name) ≤ 44 → good ≡ isGood fs → givenOf (now (f .entry)) name ≡ acting ChannelIdentifier r → verdictOf o ≡ (wellFormed r then addressed r then ours (view c) r then above (view c) r))) ⌝ }
 {
     if !good {
-        return request::Verdict::Fails(answer::Status::illegal_value());
+        return values::Verdict::Fails(answer::Status::illegal_value());
     }
     match name {
-        request::Given::Nothing => request::Verdict::Fails(answer::Status::field_missing()),
-        request::Given::At(p) => for_us(c, header::part(f, p), id),
+        values::Given::Nothing => values::Verdict::Fails(answer::Status::field_missing()),
+        values::Given::At(p) => for_us(c, message::part(f, p), id),
     }
 }
 
@@ -66,14 +61,14 @@ fn judge_fields(
     q: request::Facts,
     m: synth::Method,
     id: u32,
-) -> methods::Outcome
+) -> outcomes::Outcome
     ensures { λ o. ⌜ ((major minor : ℕ) (fs : Fields (List ℕ)) → (let r = asked major minor m id fs in length (view c .name) ≤ 44 → length (view c .queue) ≤ 16 → Tells (now (f .entry)) q r → Makes (view c .name) o (afterEarly (wellFormed r then addressed r then ours (view c) r then above (view c) r) (view c) r))) ⌝ }
 {
     let name = q.name;
     let verdict = early(c, f, q.good, name, id);
     match verdict {
-        request::Verdict::Fails(status) => methods::failed(c, id, status),
-        request::Verdict::Passes => methods::act(channel::seen(c, id), f, q, m, id),
+        values::Verdict::Fails(status) => outcomes::failed(c, id, status),
+        values::Verdict::Passes => methods::act(channel::seen(c, id), f, q, m, id),
     }
 }
 
@@ -87,13 +82,13 @@ pub fn judge(
     minor: u64,
     name: message::Span,
     id: u32,
-) -> methods::Outcome
+) -> outcomes::Outcome
     ensures { λ o. ⌜ (length (view c .name) ≤ 44 → length (view c .queue) ≤ 16 → Makes (view c .name) o (judged (view c) (asked major minor (methodOf (part (now (f .entry)) name)) id (onFields (part (now (f .entry))) (fieldsFrom (now (f .entry)) at))))) ⌝ }
 {
     if !is_current(major, minor) {
-        return methods::failed(c, id, answer::Status::version_unsupported());
+        return outcomes::failed(c, id, answer::Status::version_unsupported());
     }
-    let m = request::method(header::part(f, name));
+    let m = methodnames::method(message::part(f, name));
     let q = request::ask(f, at, m);
     judge_fields(c, f, q, m, id)
 }

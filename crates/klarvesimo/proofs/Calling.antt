@@ -94,7 +94,7 @@ counts-again [] x y = refl
 counts-again (a ∷ []) x y = refl
 counts-again (a ∷ b ∷ l) x y = refl
 
-count-again : (l : List ℕ) (x : ℕ) → set (set l 0 0) 0 x ≡ set l 0 x
+pub count-again : (l : List ℕ) (x : ℕ) → set (set l 0 0) 0 x ≡ set l 0 x
 count-again [] x = refl
 count-again (a ∷ l) x = refl
 

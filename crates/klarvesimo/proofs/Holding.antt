@@ -3,7 +3,7 @@ use Prim.Native.Nat.{ℕ, _+_, _≤_, _<_}
 use mathlib.Core.Path.{_≡_, refl, sym, ap, _∙_}
 use mathlib.Core.Bool.{true, false}
 use mathlib.Core.Option.{Option, none, some}
-use mathlib.Core.List.{List, [], _∷_, _++_}
+use mathlib.Core.List.{List, _++_}
 use native.Mathlib.Nat.{zero-add}
 use native.Mathlib.Numerals.{add-one}
 use native.Mathlib.Omega.{arith}
@@ -11,10 +11,12 @@ use lib.ListN.{length, take, drop, getD, set}
 use lib.Seq.{paste, paste-suc}
 use borrow.Author.Tests.{lt-ltb, le-ltb}
 use Rattle.synth.specs.Channel.{View, held, sound}
-use Rattle.channel.specs.Channel.{view, Lists}
+use Rattle.channel.specs.Channel.{view}
+use Rattle.queue.specs.Queue.{Lists}
 use Rattle.channel.specs.declared.Channel.{Channel}
-use Rattle.channel.specs.declared.Listing.{Listing}
+use Rattle.queue.specs.declared.Listing.{Listing}
 use Rattle.words.specs.Words.{viewOf, isSound}
+use Rattle.klarvesimo.proofs.Calling.{count-again}
 use Rattle.klarvesimo.specs.Face.{HeldFace, fitting, heldOn, heldFace, listed}
 
 -- one id more at the front
@@ -24,10 +26,6 @@ id-more out ids now i h k e =
     ∙ ap (λ (m : ℕ). set (paste out 0 ids i) m (getD ids i 0)) (sym (zero-add i))
     ∙ paste-suc out 0 ids i 0 (omega arith) k
     ∙ ap (paste out 0 ids) (sym (add-one i))
-
-count-again : (l : List ℕ) (x : ℕ) → set (set l 0 0) 0 x ≡ set l 0 x
-count-again [] x = refl
-count-again (a ∷ l) x = refl
 
 module _ (ws out count : List ℕ) where
   abbrev refusal : HeldFace

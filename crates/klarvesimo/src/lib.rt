@@ -34,7 +34,7 @@ pub extern "C" fn klarvesimo_handle(
         return 21;
     }
     let c = l.channel;
-    let r = calls::handle(c, s, out);
+    let r = client::handle(c, s, out);
     counts[0] = r.consumed as u64;
     counts[1] = r.written as u64;
     if r.number != 0 {
@@ -62,7 +62,7 @@ pub extern "C" fn klarvesimo_report(
         return 21;
     }
     let c = l.channel;
-    let e = calls::report(c, cause, out);
+    let e = engine::report(c, cause, out);
     written[0] = e.written as u64;
     if e.number != 0 {
         return e.number;
@@ -99,7 +99,7 @@ pub extern "C" fn klarvesimo_held(channel: &[u64; 64], ids: &mut [u64], count: &
     if !channel::is_sound(c) {
         return 21;
     }
-    let held = channel::list_held(c);
+    let held = queue::list_held(c);
     let n = held.count;
     if ids.len() < n {
         return 7;

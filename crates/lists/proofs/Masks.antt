@@ -9,10 +9,7 @@ use borrow.Author.Tests.{eq-eqb, ne-eqb, ltb-true, ltb-false}
 use lib.Dec.{eqb, ltb}
 use lib.Pow.{pow-lt, pow-pos, pow-add, high-ones}
 use lib.Bits.{bitAnd, bitOr, or-shr, or-mod, and-high}
-
--- bit k of m
-abbrev pub bit : ℕ → ℕ → Bool
-bit m k = eqb (m / 2 ^ k % 2) 1
+use Rattle.lists.specs.Lists.{bit}
 
 either-way : (a b : ℕ) (c : Bool) → ltb a b ≡ c → (a < b) ⊎ (b ≤ a)
 either-way a b true e = inl (ltb-true a b e)

@@ -1,13 +1,13 @@
 -- Membership, selection, difference, no duplicates. Assumes nothing.
 use Prim.Native.Nat.{ℕ}
 use mathlib.Core.Path.{_≡_, refl, sym, ap, _∙_}
-use mathlib.Core.Bool.{Bool, true, false, _&&_, _||_, or-assoc, or-true, and-false}
+use mathlib.Core.Bool.{Bool, true, false, _&&_, _||_, or-assoc, or-true, and-false, false≢true}
 use mathlib.Core.List.{List, [], _∷_, _++_}
-use mathlib.Core.Logic.{_⊎_, inl, inr}
+use mathlib.Core.Logic.{_⊎_, inl, inr, ⊎-elim}
 use lib.Dec.{eqb}
 use borrow.Author.Tests.{eqb-true, eq-eqb}
-use Rattle.lists.specs.Lists.{elem, put, keep, minus, Distinct}
-use Rattle.lists.proofs.Tests.{not-or}
+use Rattle.lists.specs.Lists.{all, elem, put, keep, minus, Distinct}
+use Rattle.lists.proofs.Tests.{both, not-or}
 
 module _ {ℓ} {A : Type ℓ} (p : A → Bool) where
   put-append : (b : Bool) (x : A) (l m : List A) → put b x l ++ m ≡ put b x (l ++ m)
@@ -42,6 +42,12 @@ elem-cases x y l h = go (eqb x y) refl h
     go : (b : Bool) → eqb x y ≡ b → b || elem x l ≡ true → (x ≡ y) ⊎ (elem x l ≡ true)
     go true e h = inl (eqb-true x y e)
     go false e h = inr h
+
+pub all-elem : (p : ℕ → Bool) (x : ℕ) (l : List ℕ) → all p l ≡ true → elem x l ≡ true → p x ≡ true
+all-elem p x [] h e = absurd (false≢true e)
+all-elem p x (y ∷ l) h e =
+    let (here, there) = both (p y) (all p l) h in
+    ⊎-elim {C = p x ≡ true} (λ q. rw q here) (λ m. all-elem p x l there m) (elem-cases x y l e)
 
 pub elem-either : (x : ℕ) (l m : List ℕ) → elem x (l ++ m) ≡ true → (elem x l ≡ true) ⊎ (elem x m ≡ true)
 elem-either x l m h = go (elem x l) refl (sym (elem-append x l m) ∙ h)

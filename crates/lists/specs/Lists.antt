@@ -1,5 +1,5 @@
--- Lists: tests of all elements, membership, selection, difference, no duplicates, rising numbers, a list dealt out into two.
-use Prim.Native.Nat.{ℕ, suc, _≤_}
+-- Lists: tests of all elements, membership, selection, difference, no duplicates, rising numbers, a list dealt out into two; bits of a mask.
+use Prim.Native.Nat.{ℕ, suc, _/_, _%_, _^_, _≤_}
 use mathlib.Core.Path.{_≡_}
 use mathlib.Core.Bool.{Bool, true, false, not, _&&_, _||_}
 use mathlib.Core.List.{List, [], _∷_}
@@ -68,3 +68,7 @@ pub data Split : List ℕ → List ℕ → List ℕ → Type 0 where
   done : Split [] [] []
   gone : {x : ℕ} {q c r : List ℕ} → Split q c r → Split (x ∷ q) (x ∷ c) r
   stays : {x : ℕ} {q c r : List ℕ} → Split q c r → Split (x ∷ q) c (x ∷ r)
+
+-- bit k of a mask
+abbrev pub bit : ℕ → ℕ → Bool
+bit mask k = eqb (mask / 2 ^ k % 2) 1

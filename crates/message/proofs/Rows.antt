@@ -1,4 +1,5 @@
--- Where the parts of field lines lie: names and values one after the other, all inside the bytes, and the body's start behind them.
+-- Where the parts of field lines lie: names and values one after the other, all inside the bytes, and the body's start behind them; and
+-- how long a name is.
 -- Assumes nothing.
 use mathlib.Core.Path.{_≡_, refl}
 use mathlib.Core.Bool.{Bool, true, false, _&&_}
@@ -8,8 +9,8 @@ use Prim.Native.Nat.{ℕ, zero, suc, _+_, _≤_}
 use native.Mathlib.Omega.{arith}
 use lib.Dec.{leb, ltb}
 use lib.ListN.{length, take, drop, length-drop}
-use borrow.Author.Tests.{ltb-true}
-use Rattle.lists.specs.Lists.{all, run}
+use borrow.Author.Tests.{ltb-true, leb-true}
+use Rattle.lists.specs.Lists.{all, run, All}
 use Rattle.octets.specs.Octets.{isName, isValue, isBlank}
 use Rattle.readers.specs.Words.{line}
 use Rattle.lists.proofs.Tests.{both}
@@ -57,11 +58,15 @@ trimmed-in at v =
     let b = run isBlank v in
     omega (arith, run-most isBlank v, trim-most (drop b v), length-drop b v)
 
+-- a name of 1 to 64 bytes
+abbrev pub NameFits : Field Span → Type 0
+NameFits x = (1 ≤ x .name .len) × (x .name .len ≤ 64)
+
 -- a line from `at` on in n bytes
 abbrev Row : ℕ → ℕ → Line → Type 0
 Row at n Line.malformed = Unit {0}
 Row at n (empty next) = (at ≤ next) × (next ≤ n)
-Row at n (field x next) = Rows at (x ∷ []) next × (next ≤ n)
+Row at n (field x next) = Rows at (x ∷ []) next × (next ≤ n) × NameFits x
 
 field-at : (at k n : ℕ) (l : List ℕ) → at + length l + 2 ≤ n → Row at n (fieldAt at k l)
 field-at at k n l h = go _ refl
@@ -69,8 +74,9 @@ field-at at k n l h = go _ refl
     go : (t : Bool) → (ltb k (length l) && leb 1 k && leb k 64 && all isName (take k l) && all isValue (drop (suc k) l)) ≡ t
         → Row at n (fieldAt at k l)
     go true e = rw (e, fieldAt) (
-        let inside = ltb-true k (length l) (both _ _ (both _ _ (both _ _ (both _ _ e .0) .0) .0) .0) in
-        omega (arith, inside, trimmed-in (at + k + 1) (drop (suc k) l), length-drop (suc k) l))
+        let (upper, most) = both _ _ (both _ _ (both _ _ e .0) .0) in
+        let (inside, least) = both _ _ upper in
+        omega (arith, ltb-true k (length l) inside, leb-true 1 k least, leb-true k 64 most, trimmed-in (at + k + 1) (drop (suc k) l), length-drop (suc k) l))
     go false e = rw (e, fieldAt) tt
 
 line-at : (at : ℕ) (s : List ℕ) (r : Option (List ℕ)) → Cut (drop at s) r → Row at (length s) (lineAt at r)
@@ -86,22 +92,23 @@ field-line at s = line-at at s (line (drop at s)) (line-cut (drop at s))
 -- at most m fields, from `at` on in n bytes
 abbrev pub Laid : ℕ → ℕ → ℕ → Lines → Type 0
 Laid m at n Lines.malformed = Unit {0}
-Laid m at n (lines fs b) = Rows at fs b × (b ≤ n) × (length fs ≤ m)
+Laid m at n (lines fs b) = Rows at fs b × (b ≤ n) × (length fs ≤ m) × All NameFits fs
 
 module _ (at n : ℕ) where
   last : (l : Line) → Row at n l → Laid 0 at n (goOn l (λ _. Lines.malformed))
   last Line.malformed h = tt
-  last (empty next) h = omega (arith, h)
+  last (empty next) (h, g) = (h, g, (omega arith), tt)
   last (field x next) h = tt
 
-  laid-with : (m next : ℕ) (x : Field Span) (r : Lines) → Rows at (x ∷ []) next → Laid m next n r → Laid (suc m) at n (with x r)
-  laid-with m next x Lines.malformed h g = tt
-  laid-with m next x (lines fs b) (p, q, r) (i, j, l) = ((p, q, rows-from (x .value .start + x .value .len) next fs b r i), j, omega arith)
+  laid-with : (m next : ℕ) (x : Field Span) (r : Lines) → Rows at (x ∷ []) next → NameFits x → Laid m next n r → Laid (suc m) at n (with x r)
+  laid-with m next x Lines.malformed h f g = tt
+  laid-with m next x (lines fs b) (p, q, r) f (i, j, l, fit) =
+      ((p, q, rows-from (x .value .start + x .value .len) next fs b r i), j, (omega arith), (f, fit))
 
   laid-on : (m : ℕ) (more : ℕ → Lines) → ((next : ℕ) → Laid m next n (more next)) → (l : Line) → Row at n l → Laid (suc m) at n (goOn l more)
   laid-on m more rest Line.malformed h = tt
-  laid-on m more rest (empty next) h = omega (arith, h)
-  laid-on m more rest (field x next) (h, _) = laid-with m next x (more next) h (rest next)
+  laid-on m more rest (empty next) (h, g) = (h, g, (omega arith), tt)
+  laid-on m more rest (field x next) (h, _, f) = laid-with m next x (more next) h f (rest next)
 
 pub laid : (m : ℕ) (s : List ℕ) (at : ℕ) → Laid m at (length s) (fieldLines m s at)
 laid zero s at = last at (length s) (fieldLine at (drop at s)) (field-line at s)

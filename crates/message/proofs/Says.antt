@@ -7,27 +7,29 @@ use Prim.Native.Nat.{ℕ, _+_, _-_, _≤_}
 use native.Mathlib.Omega.{arith}
 use lib.ListN.{length, take}
 use lib.Seq.{length-take-le}
+use Rattle.lists.specs.Lists.{All}
 use Rattle.lists.proofs.Tests.{both}
 use Rattle.framing.specs.Framing.{framing}
 use Rattle.framing.specs.declared.Framing.{Framing}
 use Rattle.framing.specs.declared.Framing.the-variants.{More, NoMessage, TooLong, TooShort, Frame}
 use Rattle.framing.proofs.Frames.{frame-fits}
 use Rattle.message.specs.Message.{Start, request, response, event, Field, Fields, bad, good, Head, Reading, refused, message}
-use Rattle.message.specs.Message.{part, onField, onReading}
+use Rattle.message.specs.Message.{InRange, part, onField, onReading}
 use Rattle.message.specs.StartLines.{Started, started, startLine}
 use Rattle.message.specs.Fields.{Lines, lines, fieldLines}
 use Rattle.message.specs.Known.{onceEach, namesOf, valueOf}
 use Rattle.message.specs.Reading.{agrees, judged, fieldsFrom, readFrom, readFramed, reading, heard}
 use Rattle.message.specs.declared.Span.{Span}
 use Rattle.message.specs.declared.Known.the-variants.{ContentLength}
-use Rattle.message.proofs.StartLine.{Named, InRange, Begun, start-line}
-use Rattle.message.proofs.Rows.{Rows, Laid, laid}
+use Rattle.message.proofs.StartLine.{Named, Begun, start-line}
+use Rattle.message.proofs.Rows.{Rows, NameFits, Laid, laid}
 
 -- fields from `at` on in a frame f, and a body, that judgement 2 lets pass
 pub record Passed (f : List ℕ) (at : ℕ) (fs : List (Field Span)) (body : Span) : Type 0 where
   pub rows : Rows at fs (body .start)
   pub ends : body .start + body .len ≡ length f
   pub few : length fs ≤ 32
+  pub names : All NameFits fs
   pub once : onceEach (namesOf (map (onField (part f)) fs)) ≡ true
   pub agreed : agrees (valueOf ContentLength (map (onField (part f)) fs)) (body .len) ≡ true
 
@@ -37,7 +39,7 @@ Judged f at (good fs body) = Passed f at fs body
 
 judged-lines : (f : List ℕ) (at : ℕ) (l : Lines) → Laid 32 at (length f) l → Judged f at (judged f l)
 judged-lines f at Lines.malformed h = tt
-judged-lines f at (lines fs b) (r, l, n) = go (onceIn && agreesIn) refl
+judged-lines f at (lines fs b) (r, l, n, names) = go (onceIn && agreesIn) refl
   where
     onceIn : Bool
     onceIn = onceEach (namesOf (map (onField (part f)) fs))
@@ -46,7 +48,7 @@ judged-lines f at (lines fs b) (r, l, n) = go (onceIn && agreesIn) refl
     agreesIn = agrees (valueOf ContentLength (map (onField (part f)) fs)) (length f - b)
 
     go : (t : Bool) → (onceIn && agreesIn) ≡ t → Judged f at (judged f (lines fs b))
-    go true e = rw (e, judged) (let (o, a) = both onceIn agreesIn e in record { rows = r; ends = omega arith; few = n; once = o; agreed = a })
+    go true e = rw (e, judged) (let (o, a) = both onceIn agreesIn e in record { rows = r; ends = omega arith; few = n; names = names; once = o; agreed = a })
     go false e = rw (e, judged) tt
 
 pub fields-from : (f : List ℕ) (at : ℕ) → Judged f at (fieldsFrom f at)

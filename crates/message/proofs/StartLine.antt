@@ -15,7 +15,7 @@ use Rattle.readers.specs.Words.{line, words, numberOf, isNumber, isRequestId}
 use Rattle.lists.proofs.Tests.{both}
 use Rattle.readers.proofs.Decimals.{number-below}
 use Rattle.readers.proofs.Cuts.{Cut, line-cut, line-length, firstOf, words-first}
-use Rattle.message.specs.Message.{Start, request, response, event}
+use Rattle.message.specs.Message.{Start, request, response, event, InRange}
 use Rattle.message.specs.StartLines.{isMethodName, isStatus, stateOf, twoWords, threeWords, startOf}
 use Rattle.message.specs.StartLines.{Started, started, goingOn, lineStart, startLine}
 use Rattle.message.specs.declared.Span.{Span}
@@ -28,12 +28,6 @@ status-below : (w : List ℕ) → isStatus w ≡ true → numberOf w < 1000
 status-below w e =
     let (n, d) = both (eqb (length w) 3) (all isDigit w) e in
     rw (eqb-true (length w) 3 n) at (number-below w d)
-
--- the request-id, and the status where there is one, are in range
-abbrev pub InRange : {P : Type 0} → Start P → Type 0
-InRange (request p i) = i < 4294967296
-InRange (response i c r) = (i < 4294967296) × (c < 1000)
-InRange (event p i r) = i < 4294967296
 
 -- the name lies between two places
 abbrev pub Named : ℕ → Start Span → ℕ → Type 0

@@ -1,5 +1,5 @@
 -- What a message says. Its parts P are places in the frame, as reading hands them back, or the bytes that stand there.
-use Prim.Native.Nat.{ℕ}
+use Prim.Native.Nat.{ℕ, _<_}
 use mathlib.Core.List.{List, [], map}
 use lib.ListN.{take, drop}
 use Rattle.message.specs.declared.Span.{Span}
@@ -10,6 +10,12 @@ pub data Start (P : Type 0) : Type 0 where
   request : P → ℕ → Start P
   response : ℕ → ℕ → RequestState → Start P
   event : P → ℕ → RequestState → Start P
+
+-- a request-id within range, and a status of three digits
+abbrev pub InRange : {P : Type 0} → Start P → Type 0
+InRange (request name id) = id < 4294967296
+InRange (response id status state) = (id < 4294967296) × (status < 1000)
+InRange (event name id state) = id < 4294967296
 
 pub record Field (P : Type 0) : Type 0 where
   pub name : P

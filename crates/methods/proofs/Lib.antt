@@ -1,3 +1,3 @@
-pub mod Making
+mod Masks
 mod Methods
 mod Stops

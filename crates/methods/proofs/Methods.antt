@@ -1,103 +1,48 @@
--- What judgements 6 to 11 come to for each method, one law for each way out. Assumes nothing.
+-- What judgements 6 to 11 come to for each method but SPEAK, one law for each way out. Assumes nothing.
 use Prim.Native.Nat.{ℕ}
-use mathlib.Core.Path.{_≡_, refl, sym, ap, _∙_}
-use mathlib.Core.Bool.{Bool, true, false, _||_, false≢true}
-use mathlib.Core.Option.{Option, none, some}
+use mathlib.Core.Path.{_≡_, refl, sym, ap, subst, _∙_}
+use mathlib.Core.Bool.{true, false, false≢true}
+use mathlib.Core.Option.{Option}
 use mathlib.Core.List.{List, [], _∷_}
-use native.Mathlib.Omega.{arith}
-use lib.Dec.{leb, ltb}
-use lib.ListN.{length}
-use borrow.Author.Tests.{leb-true, leb-false, lt-ltb, le-ltb}
 use Rattle.message.specs.Message.{Fields}
-use Rattle.octets.specs.Octets.{bytes, alike}
-use Rattle.message.specs.declared.Known.the-variants.{KillOnBargeIn, ActiveRequestIdList}
-use Rattle.message.specs.declared.RequestState.the-variants.{Pending, InProgress, Complete}
+use Rattle.message.specs.declared.Known.the-variants.{ActiveRequestIdList}
+use Rattle.message.specs.declared.RequestState.the-variants.{Complete}
 use Rattle.answer.specs.IdList.{isIdList}
-use Rattle.synth.specs.Channel.{View, isIdle, held}
+use Rattle.synth.specs.Channel.{View, withQueue, isIdle, held}
 use Rattle.synth.specs.Request.{Request, acting}
-use Rattle.synth.specs.Judgement.{passes, fails, _then_, unless, optional, isFlag, legal, amongSix, valid, content, room, late}
-use Rattle.synth.specs.States.{failed, succeeded, killable, joined, stop, bargeIn, active, act, afterLate}
+use Rattle.synth.specs.Judgement.{_then_, unless, optional, legal, amongSix, valid, content, room, late}
+use Rattle.synth.specs.States.{failed, succeeded, stop, bargeIn, active, act, afterLate}
 use Rattle.synth.specs.declared.Entry.{Entry}
 use Rattle.synth.specs.declared.Method.{Method}
+use Rattle.synth.specs.declared.State.{State}
 use Rattle.synth.specs.declared.State.the-variants.{Idle, Speaking, Paused}
-use Rattle.channel.specs.Channel.{first}
-use Rattle.request.specs.Telling.{killOf}
-use Rattle.request.specs.declared.Kill.{Kill}
-use Rattle.methods.specs.Outcomes.{asked}
+use Rattle.channel.specs.Channel.{view}
+use Rattle.channel.specs.declared.Channel.{Channel}
+use Rattle.queue.specs.Queue.{first, listsNone, Lists}
+use Rattle.queue.specs.declared.Listing.{Listing}
+use Rattle.request.specs.Telling.{Tells}
+use Rattle.request.specs.declared.Facts.{Facts}
+use Rattle.outcomes.specs.Outcomes.{asked, Makes}
+use Rattle.outcomes.specs.declared.Outcome.{Outcome}
+use Rattle.outcomes.proofs.Making.{none-lists}
 
--- what Kill-On-Barge-In says
-abbrev killed : Bool → Bool → Kill
-killed t f = elim t [ true ↦ Kill.Killable | false ↦ elim f [ true ↦ Kill.Spared | false ↦ Kill.Illegal ] ]
+-- the same state and queue again
+pub unchanged : (v : View) (s : State) → v .state ≡ s → v ≡ withQueue s (v .queue) v
+unchanged v s e = λ i. record { name = v .name; state = e i; queue = v .queue; last = v .last }
 
-pub kill-yes : (o : Option (List ℕ)) → Kill.Killable ≡ killOf o → (optional isFlag o ≡ true) × (true ≡ killable o)
-kill-yes none e = (refl, refl)
-kill-yes (some v) e = go (alike v (bytes "true")) (alike v (bytes "false")) e
-  where
-    go : (t f : Bool) → Kill.Killable ≡ killed t f → ((t || f) ≡ true) × (true ≡ t)
-    go true f e = (refl, refl)
-    go false true e = let d : _≡_ {A = ℕ} 0 1 = cc in absurd (omega arith)
-    go false false e = let d : _≡_ {A = ℕ} 0 1 = cc in absurd (omega arith)
+pub none-listed : (c : Channel) {next : View} {l : Listing} → l ≡ listsNone c → view c ≡ next → Lists [] next l
+none-listed c {next} e f = rw e (none-lists c next f)
 
-pub kill-no : (o : Option (List ℕ)) → Kill.Spared ≡ killOf o → (optional isFlag o ≡ true) × (false ≡ killable o)
-kill-no none e = let d : _≡_ {A = ℕ} 0 1 = cc in absurd (omega arith)
-kill-no (some v) e = go (alike v (bytes "true")) (alike v (bytes "false")) e
-  where
-    go : (t f : Bool) → Kill.Spared ≡ killed t f → ((t || f) ≡ true) × (false ≡ t)
-    go true f e = let d : _≡_ {A = ℕ} 0 1 = cc in absurd (omega arith)
-    go false true e = (refl, refl)
-    go false false e = let d : _≡_ {A = ℕ} 0 1 = cc in absurd (omega arith)
+pub active-listed : {v next : View} {l : Listing} → Lists (active (v .queue)) v l → v ≡ next → Lists (active (next .queue)) next l
+active-listed {v} {next} {l} h e = subst (λ (w : View). Lists (active (w .queue)) w l) e h
 
-pub kill-illegal : (o : Option (List ℕ)) → Kill.Illegal ≡ killOf o → optional isFlag o ≡ false
-kill-illegal none e = let d : _≡_ {A = ℕ} 0 1 = cc in absurd (omega arith)
-kill-illegal (some v) e = go (alike v (bytes "true")) (alike v (bytes "false")) e
-  where
-    go : (t f : Bool) → Kill.Illegal ≡ killed t f → (t || f) ≡ false
-    go true f e = let d : _≡_ {A = ℕ} 0 1 = cc in absurd (omega arith)
-    go false true e = let d : _≡_ {A = ℕ} 0 1 = cc in absurd (omega arith)
-    go false false e = refl
+-- what is shown of `act`, for one method
+abbrev pub Does : View → List ℕ → Facts → Outcome → ℕ → ℕ → ℕ → Fields (List ℕ) → Method → Type 0
+Does v f q o major minor id fs m =
+    let r : Request = asked major minor m id fs in
+    Tells f q r → Makes (v .name) o (afterLate (late v r) v r)
 
 module _ (v : View) (major minor id : ℕ) (fs : Fields (List ℕ)) where
-  -- SPEAK
-  module _ where
-    abbrev speaks : Request
-    speaks = asked major minor Method.Speak id fs
-
-    pub speak-illegal : optional isFlag (acting KillOnBargeIn speaks) ≡ false → afterLate (late v speaks) v speaks ≡ failed v speaks 404
-    unfolding late legal acting unless _then_
-    speak-illegal e = rw e
-
-    pub speak-legal : optional isFlag (acting KillOnBargeIn speaks) ≡ true → afterLate (late v speaks) v speaks ≡ afterLate (content speaks then room v speaks) v speaks
-    unfolding late legal amongSix valid acting unless _then_
-    speak-legal e = rw e
-
-    pub speak-unfit : (status : ℕ) → fails status ≡ content speaks → afterLate (content speaks then room v speaks) v speaks ≡ failed v speaks status
-    unfolding _then_
-    speak-unfit status e = rw (← e)
-
-    pub speak-fit : passes ≡ content speaks → afterLate (content speaks then room v speaks) v speaks ≡ afterLate (room v speaks) v speaks
-    unfolding _then_
-    speak-fit e = rw (← e)
-
-    pub speak-full : leb 16 (length (v .queue)) ≡ true → afterLate (room v speaks) v speaks ≡ failed v speaks 407
-    unfolding room unless
-    speak-full e = rw (le-ltb (length (v .queue)) 16 (leb-true 16 (length (v .queue)) e))
-
-    has-room : leb 16 (length (v .queue)) ≡ false → ltb (length (v .queue)) 16 ≡ true
-    has-room e = lt-ltb (length (v .queue)) 16 (leb-false 16 (length (v .queue)) e)
-
-    module _ (few : leb 16 (length (v .queue)) ≡ false) where
-      pub speak-idle : v .state ≡ Idle → afterLate (room v speaks) v speaks ≡ succeeded v speaks InProgress [] Speaking (joined v speaks)
-      unfolding room unless act
-      speak-idle e = rw (has-room few, e)
-
-      pub speak-speaking : v .state ≡ Speaking → afterLate (room v speaks) v speaks ≡ succeeded v speaks Pending [] Speaking (joined v speaks)
-      unfolding room unless act
-      speak-speaking e = rw (has-room few, e)
-
-      pub speak-paused : v .state ≡ Paused → afterLate (room v speaks) v speaks ≡ succeeded v speaks Pending [] Paused (joined v speaks)
-      unfolding room unless act
-      speak-paused e = rw (has-room few, e)
-
   -- STOP
   module _ where
     abbrev stops : Request

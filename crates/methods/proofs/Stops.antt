@@ -17,10 +17,10 @@ use Rattle.synth.specs.Channel.{View, withQueue, held, ids}
 use Rattle.synth.specs.States.{whileAny, ends}
 use Rattle.synth.specs.declared.Entry.{Entry}
 use Rattle.synth.specs.declared.State.the-variants.{Idle}
-use Rattle.channel.specs.Channel.{marked, listsNone, Lists}
+use Rattle.queue.specs.Queue.{marked, listsNone, Lists}
 use Rattle.channel.specs.declared.Channel.{Channel}
-use Rattle.channel.specs.declared.Listing.{Listing}
-use Rattle.channel.proofs.Masks.{marks-listed, marks-others}
+use Rattle.queue.specs.declared.Listing.{Listing}
+use Rattle.methods.proofs.Masks.{marks-listed, marks-others}
 
 -- never more than the array holds
 pub held-few : (v : View) (c : Channel) (l : Listing) → ((length (v .queue) ≤ 16 → Lists (held v) v l) × (16 < length (v .queue) → l ≡ listsNone c)) → l .count ≤ 16

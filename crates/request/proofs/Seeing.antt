@@ -2,14 +2,15 @@
 -- Assumes nothing.
 use mathlib.Core.Path.{_≡_, refl, sym, ap, _∙_}
 use mathlib.Core.Bool.{Bool, true, false, not}
+use mathlib.Core.Option.{none, some}
 use mathlib.Core.List.{List, [], _∷_, map}
 use Prim.Native.Nat.{ℕ, _+_}
 use native.Mathlib.Omega.{arith}
 use lib.Bits.{bitAnd}
 use lib.Dec.{eqb}
-use lib.ListN.{length, getD, length-take, length-drop}
+use lib.ListN.{length, length-take, length-drop}
 use borrow.Author.Tests.{eq-eqb, ne-eqb}
-use Rattle.lists.specs.Lists.{all, isEmpty}
+use Rattle.lists.specs.Lists.{all, isEmpty, bit}
 use Rattle.message.specs.Message.{Field, Fields, bad, good, fieldsIn, part, onField, onFields}
 use Rattle.message.specs.Known.{indexOf, isKnown, onceEach, namesOf, valueOf}
 use Rattle.message.specs.Reading.{bodyIn}
@@ -17,18 +18,18 @@ use Rattle.message.specs.declared.Span.{Span}
 use Rattle.message.specs.declared.Known.{Known}
 use Rattle.message.specs.declared.Known.the-variants.{ChannelIdentifier, ContentLength, ContentType, ActiveRequestIdList, KillOnBargeIn}
 use Rattle.message.proofs.Says.{Judged}
-use Rattle.header.specs.Header.{namesIn, headerOf}
-use Rattle.header.specs.Steps.{knownBit, valueAt}
+use Rattle.names.specs.Names.{namesIn}
+use Rattle.header.specs.Header.{headerOf}
+use Rattle.names.specs.Steps.{knownBit}
 use Rattle.header.specs.declared.Header.{Header}
-use Rattle.header.specs.declared.Found.{Found}
-use Rattle.lists.proofs.Masks.{bit}
-use Rattle.header.proofs.Theorems.Lookup.{lookup-value}
-use Rattle.header.proofs.Theorems.NamesOfASet.{none-of-set}
+use Rattle.header.proofs.Theorems.ValueByMask.{value-by-mask}
+use Rattle.names.proofs.Theorems.NamesOfASet.{none-of-set}
 use Rattle.synth.specs.Request.{isGood}
 use Rattle.synth.specs.Judgement.{given, anything}
-use Rattle.request.specs.Telling.{givenOf}
-use Rattle.request.specs.Steps.{placeOf, seenOf, meets, givenBy}
-use Rattle.request.specs.declared.Given.{Given}
+use Rattle.values.specs.Values.{givenOf}
+use Rattle.values.specs.Steps.{meets, givenBy}
+use Rattle.request.specs.Steps.{placeOf, seenOf}
+use Rattle.values.specs.declared.Given.{Given}
 use Rattle.request.specs.declared.Seen.{Seen}
 
 pub record Sees (f : List ℕ) (s : Seen) (fs : Fields (List ℕ)) : Type 0 where
@@ -47,10 +48,9 @@ module _ (f : List ℕ) where
   unfolding valueOf
   nothing = record { judged = refl; name = refl; sized = refl; media = refl; list = refl; kill = refl; body = refl; names = λ set. refl }
 
-  by-place : (h : Header) (i : ℕ) (t : Bool) → givenOf f (elim (not t) [ true ↦ Given.At (placeOf h i) | false ↦ Given.Nothing ])
-      ≡ valueAt f (h .fields) (elim t [ true ↦ Found.Nothing | false ↦ Found.At (getD (h .which) i 0) ])
-  by-place h i true = refl
-  by-place h i false = refl
+  by-place : (p : Span) (t : Bool) → givenOf f (elim (not t) [ true ↦ Given.At p | false ↦ Given.Nothing ]) ≡ elim t [ true ↦ none | false ↦ some (part f p) ]
+  by-place p true = refl
+  by-place p false = refl
 
   came : (p : Span) (b : Bool) → b ≡ given anything (givenOf f (elim b [ true ↦ Given.At p | false ↦ Given.Nothing ]))
   came p true = refl
@@ -66,7 +66,7 @@ module _ (f : List ℕ) where
 
     value : (k : Known) → isKnown k ≡ true
         → givenOf f (givenBy (h .mask) (knownBit k) (placeOf h (indexOf k))) ≡ valueOf k (map (onField (part f)) fs)
-    value k known = by-place h (indexOf k) (eqb (bitAnd (h .mask) (knownBit k)) 0) ∙ sym (lookup-value f fs body once k known)
+    value k known = by-place (placeOf h (indexOf k)) (eqb (bitAnd (h .mask) (knownBit k)) 0) ∙ sym (value-by-mask f fs body once k known)
 
     something : Sees f (seenOf h) (onFields (part f) (good fs body))
     something = record {

@@ -6,19 +6,20 @@ use mathlib.Core.List.{List, [], _∷_, map}
 use Prim.Native.Nat.{ℕ}
 use lib.Dec.{eqb}
 use lib.ListN.{getD}
-use Rattle.lists.specs.Lists.{all}
+use Rattle.lists.specs.Lists.{all, bit}
 use Rattle.message.specs.Message.{Fields, fieldsIn, part}
 use Rattle.message.specs.Known.{indexOf, namesOf}
 use Rattle.message.specs.declared.Span.{Span}
 use Rattle.message.specs.declared.Known.{Known}
 use Rattle.message.specs.declared.Known.the-variants.{ChannelIdentifier, ContentLength, ContentType, ActiveRequestIdList, KillOnBargeIn, ProxySyncId, LoggingTag, Unknown}
-use Rattle.lists.proofs.Masks.{bit}
 use Rattle.synth.specs.Request.{Request, isSpeak, isStop, ignored, acting, ignoresAny}
 use Rattle.synth.specs.Judgement.{given, anything, isSpeechType, content, _then_, unless}
 use Rattle.synth.specs.declared.Method.{Method}
-use Rattle.request.specs.Telling.{givenOf, killOf, verdictOf, Tells}
-use Rattle.request.specs.Steps.{meets, contentBy, inSpeak, inStop, elsewhere, factsOf}
-use Rattle.request.specs.declared.Given.{Given}
+use Rattle.values.specs.Values.{givenOf, killOf, verdictOf}
+use Rattle.request.specs.Telling.{Tells}
+use Rattle.values.specs.Steps.{meets, contentBy}
+use Rattle.request.specs.Steps.{inSpeak, inStop, elsewhere, factsOf}
+use Rattle.values.specs.declared.Given.{Given}
 use Rattle.request.specs.declared.Seen.{Seen}
 use Rattle.request.proofs.Seeing.{Sees}
 

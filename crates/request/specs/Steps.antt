@@ -1,8 +1,7 @@
 -- What the steps of asking a request's fields find, in the types of the code.
 use Prim.Native.Nat.{ℕ}
-use mathlib.Core.Bool.{Bool, true, false, not}
+use mathlib.Core.Bool.{true, false}
 use mathlib.Core.List.{List}
-use lib.Bits.{bitAnd}
 use lib.Dec.{eqb}
 use lib.ListN.{getD}
 use Rattle.message.specs.Message.{part}
@@ -12,10 +11,11 @@ use Rattle.header.specs.declared.Header.{Header}
 use Rattle.synth.specs.Request.{isSpeak, isStop}
 use Rattle.synth.specs.Judgement.{isSpeechType}
 use Rattle.synth.specs.declared.Method.{Method}
-use Rattle.request.specs.Telling.{givenOf, killOf}
-use Rattle.request.specs.declared.Given.{Given}
-use Rattle.request.specs.declared.Kill.{Kill}
-use Rattle.request.specs.declared.Verdict.{Verdict}
+use Rattle.values.specs.Values.{givenOf, killOf}
+use Rattle.values.specs.Steps.{meets, givenBy, contentBy}
+use Rattle.values.specs.declared.Given.{Given}
+use Rattle.values.specs.declared.Kill.{Kill}
+use Rattle.values.specs.declared.Verdict.{Verdict}
 use Rattle.request.specs.declared.Facts.{Facts}
 use Rattle.request.specs.declared.Seen.{Seen}
 
@@ -34,26 +34,6 @@ seenOf h = record {
   kill = placeOf h 4;
   body = h .body .len;
 }
-
--- one of the names of a set came
-abbrev pub meets : ℕ → ℕ → Bool
-meets mask set = not (eqb (bitAnd mask set) 0)
-
--- the value at p, where the name with that bit came
-abbrev pub givenBy : ℕ → ℕ → Span → Given
-givenBy mask b p = elim (meets mask b) [ true ↦ Given.At p | false ↦ Given.Nothing ]
-
--- a failure with that status
-abbrev pub failing : ℕ → Verdict
-failing n = Verdict.Fails (record { code = n })
-
--- judgement 9 of a SPEAK: whether Content-Length came, whether Content-Type did, whether the body is empty, whether the type is one of the three
-abbrev pub contentBy : Bool → Bool → Bool → Bool → Verdict
-contentBy false typed empty speech = failing 406
-contentBy true false empty speech = failing 406
-contentBy true true true speech = failing 408
-contentBy true true false false = failing 409
-contentBy true true false true = Verdict.Passes
 
 -- what the fields say to a SPEAK, where the list and unknown names are ignored (8 and 128)
 abbrev pub inSpeak : List ℕ → Seen → Facts

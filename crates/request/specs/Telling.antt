@@ -1,37 +1,12 @@
 -- What the code tells of a request's fields, in the terms of the judgement.
 use Prim.Native.Nat.{ℕ}
 use mathlib.Core.Path.{_≡_}
-use mathlib.Core.Bool.{true, false}
-use mathlib.Core.Option.{Option, none, some}
 use mathlib.Core.List.{List}
-use Rattle.octets.specs.Octets.{bytes, alike}
-use Rattle.message.specs.Message.{part}
 use Rattle.message.specs.declared.Known.the-variants.{ChannelIdentifier, ActiveRequestIdList, KillOnBargeIn}
 use Rattle.synth.specs.Request.{Request, isGood, acting, ignoresAny}
-use Rattle.synth.specs.Judgement as J
-use Rattle.synth.specs.Judgement.{passes, fails, content}
-use Rattle.request.specs.declared.Given.{Given}
-use Rattle.request.specs.declared.Kill.{Kill}
-use Rattle.request.specs.declared.Verdict.{Verdict}
+use Rattle.synth.specs.Judgement.{content}
+use Rattle.values.specs.Values.{givenOf, killOf, verdictOf}
 use Rattle.request.specs.declared.Facts.{Facts}
-
--- the bytes of a value in the frame f, where it is given
-abbrev pub givenOf : List ℕ → Given → Option (List ℕ)
-givenOf f Given.Nothing = none
-givenOf f (Given.At p) = some (part f p)
-
--- Kill-On-Barge-In defaults to true; it is `true` or `false` in any case
-abbrev pub killOf : Option (List ℕ) → Kill
-killOf none = Kill.Killable
-killOf (some v) = elim (alike v (bytes "true")) [
-  | true ↦ Kill.Killable
-  | false ↦ elim (alike v (bytes "false")) [ true ↦ Kill.Spared | false ↦ Kill.Illegal ]
-]
-
--- a verdict as the judgement has it: the paper's number of its status
-abbrev pub verdictOf : Verdict → J.Verdict
-verdictOf Verdict.Passes = passes
-verdictOf (Verdict.Fails status) = fails (status .code)
 
 -- what is told of the request r, whose frame is f
 pub record Tells (f : List ℕ) (q : Facts) (r : Request) : Type 0 where

@@ -3,15 +3,17 @@
 use mathlib.Core.Path.{_≡_, refl, sym, ap, _∙_}
 use mathlib.Core.Bool.{Bool, true, false, false≢true}
 use mathlib.Core.List.{List, [], _∷_, _++_}
-use Prim.Native.Nat.{ℕ, zero, suc, _+_, _-_, _*_, _≤_}
-use native.Mathlib.Nat.{add-zero, le-of-suc-le-suc}
+use Prim.Native.Nat.{ℕ, zero, suc, _≤_, min}
+use native.Mathlib.Nat.{le-of-suc-le-suc}
 use native.Mathlib.Omega.{arith}
-use lib.ListN.{length, take, drop}
+use lib.ListN.{length, take, drop, take-append-drop}
+use lib.Seq.{length-take-le}
 use Rattle.lists.specs.Lists.{all, run}
 use Rattle.lists.proofs.Tests.{both}
 use Rattle.octets.specs.Octets.{isDigit}
-use Rattle.readers.specs.Words.{decimal}
-use Rattle.startline.specs.Runs.{digitsAt}
+use Rattle.readers.specs.Words.{numberOf}
+use Rattle.readers.specs.Steps.{digitsAt}
+use Rattle.startwords.proofs.Positions.{run-in}
 
 -- w, at most n bytes that pass, and then r; w ends where n do, or at a byte that does not pass, or with the list
 pub data Front (test : ℕ → Bool) : ℕ → List ℕ → List ℕ → Type 0 where
@@ -51,34 +53,34 @@ run-firm test (y ∷ l) x r v e a = go (run-firm test l x r v) (test y) refl
         let p : y ≡ x = cc in
         false≢true (sym h ∙ ap test p ∙ both (test x) (all test v) (rw (h, run) at a) .0)
 
+front-digits : (n : ℕ) (l : List ℕ) → Front isDigit n (take (min (run isDigit l) n) l) (drop (min (run isDigit l) n) l)
+front-digits zero l = let e : min (run isDigit l) 0 ≡ 0 = omega arith in rw e full
+front-digits (suc n) [] = let e : min 0 (suc n) ≡ 0 = omega arith in rw e done
+front-digits (suc n) (x ∷ l) = go (isDigit x) refl (front-digits n l)
+  where
+    go : (b : Bool) → isDigit x ≡ b → Front isDigit n (take (min (run isDigit l) n) l) (drop (min (run isDigit l) n) l)
+        → Front isDigit (suc n) (take (min (run isDigit (x ∷ l)) (suc n)) (x ∷ l)) (drop (min (run isDigit (x ∷ l)) (suc n)) (x ∷ l))
+    go true e f = let m : min (run isDigit (x ∷ l)) (suc n) ≡ suc (min (run isDigit l) n) = rw (e, run) (omega arith) in rw m (step e f)
+    go false e f = let m : min (run isDigit (x ∷ l)) (suc n) ≡ 0 = rw (e, run) (omega arith) in rw m (stop e)
+
 -- the digits that are read, and the number that they write
-pub record Counted (n v at : ℕ) (l : List ℕ) : Type 0 where
+pub record Counted (n : ℕ) (l : List ℕ) : Type 0 where
   pub word : List ℕ
   pub rest : List ℕ
   pub parted : l ≡ word ++ rest
   pub front : Front isDigit n word rest
-  pub read : digitsAt n v at l ≡ record { value = decimal v word; end = at + length word }
+  pub read : digitsAt n l ≡ record { value = numberOf word; count = length word }
 
-pub counted : (n v at : ℕ) (l : List ℕ) → Counted n v at l
-counted zero v at l = record { word = []; rest = l; parted = refl; front = full; read = ap (λ e. record { value = v; end = e }) (sym (add-zero at)) }
-counted (suc n) v at [] = record { word = []; rest = []; parted = refl; front = done; read = ap (λ e. record { value = v; end = e }) (sym (add-zero at)) }
-counted (suc n) v at (x ∷ l) = go (isDigit x) refl (counted n (v * 10 + (x - 48)) (at + 1) l)
-  where
-    go : (b : Bool) → isDigit x ≡ b → Counted n (v * 10 + (x - 48)) (at + 1) l → Counted (suc n) v at (x ∷ l)
-    go true e c =
-        let k : at + 1 + length (c .word) ≡ at + suc (length (c .word)) = omega arith in
-        record {
-          word = x ∷ c .word;
-          rest = c .rest;
-          parted = ap (_∷_ x) (c .parted);
-          front = step e (c .front);
-          read = rw (e, digitsAt) (c .read ∙ ap (λ e. record { value = decimal (v * 10 + (x - 48)) (c .word); end = e }) k);
-        }
-    go false e c =
-        record {
-          word = [];
-          rest = x ∷ l;
-          parted = refl;
-          front = stop e;
-          read = rw (e, digitsAt) (ap (λ e. record { value = v; end = e }) (sym (add-zero at)));
-        }
+pub counted : (n : ℕ) → n ≤ 19 → (l : List ℕ) → Counted n l
+unfolding digitsAt
+counted n h l =
+    let k : ℕ = min (run isDigit l) n in
+    let e : min (run isDigit l) (min n 19) ≡ k = omega arith in
+    let few : k ≤ length l = omega (arith, run-in isDigit l) in
+    record {
+      word = take k l;
+      rest = drop k l;
+      parted = sym (take-append-drop k l);
+      front = front-digits n l;
+      read = ap (λ m. record { value = numberOf (take m l); count = m }) e ∙ ap (λ c. record { value = numberOf (take k l); count = c }) (sym (length-take-le k l few));
+    }

@@ -5,9 +5,8 @@ use mathlib.Core.Bool.{Bool, true, false, _&&_, _||_, and-true, and-false}
 use mathlib.Core.Option.{none}
 use mathlib.Core.List.{List, [], _∷_, _++_}
 use Prim.Native.Nat.{ℕ, suc, _+_, _-_, _<_, _≤_}
-use native.Mathlib.Nat.{add-zero}
 use native.Mathlib.Omega.{arith}
-use lib.Dec.{eqb, leb}
+use lib.Dec.{eqb, leb, lit≤}
 use lib.ListN.{length, take, drop, take-append-drop}
 use lib.Seq.{drop-drop, drop-append-seam}
 use borrow.Author.Tests.{eq-eqb, ne-eqb, eqb-true, leb-true, le-leb, lt-leb}
@@ -16,13 +15,14 @@ use Rattle.lists.proofs.Tests.{both, refuted}
 use Rattle.lists.proofs.Scans.{run-all, run-length}
 use Rattle.octets.specs.Octets.{isDigit, isCapital}
 use Rattle.readers.specs.Words.{numberOf, isNumber, isRequestId, starts, isCrlf}
+use Rattle.readers.specs.Steps.{digitsAt}
+use Rattle.readers.specs.declared.Digits.{Digits}
 use Rattle.readers.proofs.Words.{number-fits}
 use Rattle.message.specs.Message.{response}
 use Rattle.message.specs.StartLines.{startsCapital, isMethodName, isStatus, Started}
-use Rattle.startline.specs.Runs.{isNaming, digitsAt, idOf, idAt}
+use Rattle.startwords.specs.Runs.{isNaming, idOf, idAt}
 use Rattle.startline.specs.Rules.{Rule, said, told, word, lastWord, fromStatus, behindName, fromName}
-use Rattle.startline.specs.declared.Id.{Id}
-use Rattle.startline.specs.declared.Number.{Number}
+use Rattle.startwords.specs.declared.Id.{Id}
 use Rattle.startline.proofs.Said.{Firm, ended, told-word, told-nothing}
 use Rattle.startline.proofs.Fronts.{Front, front-all, front-few, front-firm, run-firm, Counted, counted}
 
@@ -48,7 +48,7 @@ module _ (fits : List ℕ → Bool) (more : List ℕ → Rule) where
 
 -- at most n digits, and a test that only such words pass
 digits-told : (fits : List ℕ → Bool) (more : List ℕ → Rule) (n : ℕ) → ((w : List ℕ) → fits w ≡ true → (length w ≤ n) × (all isDigit w ≡ true))
-    → (at : ℕ) (l : List ℕ) (c : Counted n 0 at l)
+    → (at : ℕ) (l : List ℕ) (c : Counted n l)
     → told (word fits more) at (said l) ≡ elim (fits (c .word)) [ true ↦ ended (more (c .word)) (at + length (c .word)) (c .rest) | false ↦ Started.malformed ]
 digits-told fits more n few at l c =
     ap (λ l. told (word fits more) at (said l)) (c .parted)
@@ -85,16 +85,6 @@ abbrev pub idBy : List ℕ → (ℕ → Rule) → Id → Started
 idBy s rule Id.Wrong = Started.malformed
 idBy s rule (Id.Got id e) = ended (rule id) e (drop e s)
 
-module _ (at : ℕ) (d : Number) where
-  pub id-none : d .end ≡ at → idOf at d ≡ Id.Wrong
-  id-none h = rw (eq-eqb (d .end) at h, idOf)
-
-  pub id-great : (d .end ≡ at → ⊥) → 4294967295 < d .value → idOf at d ≡ Id.Wrong
-  id-great h l = rw (ne-eqb (d .end) at h, lt-leb (d .value) 4294967295 l, idOf)
-
-  pub id-fits : (d .end ≡ at → ⊥) → d .value ≤ 4294967295 → idOf at d ≡ Id.Got (d .value) (d .end)
-  id-fits h l = rw (ne-eqb (d .end) at h, le-leb (d .value) 4294967295 l, idOf)
-
 id-few : (w : List ℕ) → isRequestId w ≡ true → (length w ≤ 10) × (all isDigit w ≡ true)
 id-few w e =
     let n = both (isNumber 10 w) (leb (numberOf w) 4294967295) e .0 in
@@ -103,11 +93,11 @@ id-few w e =
 
 id-left : (s : List ℕ) (rule : ℕ → Rule) (at : ℕ) (w r : List ℕ) → drop at s ≡ w ++ r → Front isDigit 10 w r
     → _≡_ {A = Started} (elim (isRequestId w) [ true ↦ ended (rule (numberOf w)) (at + length w) r | false ↦ Started.malformed ])
-    (idBy s rule (idOf at (record { value = numberOf w; end = at + length w })))
-id-left s rule at [] r e f = rw (eq-eqb (at + 0) at (add-zero at), idOf)
+    (idBy s rule (idOf at (record { value = numberOf w; count = length w })))
+id-left s rule at [] r e f = refl
 id-left s rule at (x ∷ w) r e f =
     let a : isNumber 10 (x ∷ w) ≡ true = number-fits 10 (x ∷ w) (omega arith) (front-few f) (front-all f) in
-    let n : eqb (at + suc (length w)) at ≡ false = ne-eqb (at + suc (length w)) at (λ q. omega arith) in
+    let n : eqb (suc (length w)) 0 ≡ false = ne-eqb (suc (length w)) 0 (λ q. let z : suc (length w) ≡ 0 = q in omega arith) in
     rw (a, n, idOf) (go (leb (numberOf (x ∷ w)) 4294967295))
   where
     end : ℕ
@@ -123,15 +113,15 @@ pub id-told : (s : List ℕ) (rule : ℕ → Rule) (at : ℕ)
     → told (word isRequestId (λ a. rule (numberOf a))) at (said (drop at s)) ≡ idBy s rule (idAt at (drop at s))
 unfolding idAt
 id-told s rule at =
-    let c = counted 10 0 at (drop at s) in
+    let c = counted 10 (lit≤ tt) (drop at s) in
     digits-told isRequestId (λ a. rule (numberOf a)) 10 id-few at (drop at s) c ∙ id-left s rule at (c .word) (c .rest) (c .parted) (c .front)
     ∙ ap (λ d. idBy s rule (idOf at d)) (sym (c .read))
 
 -- ---- a status
 
 -- what is left behind digits, where they are three
-abbrev statusBy : List ℕ → ℕ → Bool → Number → Started
-statusBy s id three d = elim three [ true ↦ ended (lastWord (response id (d .value))) (d .end) (drop (d .end) s) | false ↦ Started.malformed ]
+abbrev statusBy : List ℕ → ℕ → ℕ → Bool → Digits → Started
+statusBy s id at three d = elim three [ true ↦ ended (lastWord (response id (d .value))) (at + d .count) (drop (at + d .count) s) | false ↦ Started.malformed ]
 
 status-few : (w : List ℕ) → isStatus w ≡ true → (length w ≤ 3) × (all isDigit w ≡ true)
 status-few w e =
@@ -139,31 +129,29 @@ status-few w e =
     (omega (arith, eqb-true (length w) 3 l), d)
 
 status-told : (s : List ℕ) (id at : ℕ)
-    → let d = digitsAt 3 0 at (drop at s) in
-    told (fromStatus id) at (said (drop at s)) ≡ statusBy s id (eqb (d .end - at) 3) d
+    → let d = digitsAt 3 (drop at s) in
+    told (fromStatus id) at (said (drop at s)) ≡ statusBy s id at (eqb (d .count) 3) d
 status-told s id at =
-    let c = counted 3 0 at (drop at s) in
-    let d : Number = record { value = numberOf (c .word); end = at + length (c .word) } in
-    let n : at + length (c .word) - at ≡ length (c .word) = omega arith in
+    let c = counted 3 (lit≤ tt) (drop at s) in
     digits-told isStatus (λ b. lastWord (response id (numberOf b))) 3 status-few at (drop at s) c
     ∙ rw (front-all (c .front), and-true (eqb (length (c .word)) 3)) (go c (eqb (length (c .word)) 3))
-    ∙ ap (λ k. statusBy s id (eqb k 3) d) (sym n) ∙ ap (λ d. statusBy s id (eqb (d .end - at) 3) d) (sym (c .read))
+    ∙ ap (λ d. statusBy s id at (eqb (d .count) 3) d) (sym (c .read))
   where
-    go : (c : Counted 3 0 at (drop at s)) (b : Bool)
+    go : (c : Counted 3 (drop at s)) (b : Bool)
         → _≡_ {A = Started} (elim b [ true ↦ ended (lastWord (response id (numberOf (c .word)))) (at + length (c .word)) (c .rest) | false ↦ Started.malformed ])
-        (statusBy s id b (record { value = numberOf (c .word); end = at + length (c .word) }))
+        (statusBy s id at b (record { value = numberOf (c .word); count = length (c .word) }))
     go c true = ap (ended (lastWord (response id (numberOf (c .word)))) (at + length (c .word))) (sym (at-rest s at (c .word) (c .rest) (c .parted)))
     go c false = refl
 
-module _ (s : List ℕ) (id at : ℕ) (d : Number) (found : d ≡ digitsAt 3 0 at (drop at s)) where
-  status-found : told (fromStatus id) at (said (drop at s)) ≡ statusBy s id (eqb (d .end - at) 3) d
-  status-found = status-told s id at ∙ ap (λ d. statusBy s id (eqb (d .end - at) 3) d) (sym found)
+module _ (s : List ℕ) (id at : ℕ) (d : Digits) (found : d ≡ digitsAt 3 (drop at s)) where
+  status-found : told (fromStatus id) at (said (drop at s)) ≡ statusBy s id at (eqb (d .count) 3) d
+  status-found = status-told s id at ∙ ap (λ d. statusBy s id at (eqb (d .count) 3) d) (sym found)
 
-  pub status-wrong : (d .end - at ≡ 3 → ⊥) → told (fromStatus id) at (said (drop at s)) ≡ Started.malformed
-  status-wrong h = status-found ∙ ap (λ b. statusBy s id b d) (ne-eqb (d .end - at) 3 h)
+  pub status-wrong : (d .count ≡ 3 → ⊥) → told (fromStatus id) at (said (drop at s)) ≡ Started.malformed
+  status-wrong h = status-found ∙ ap (λ b. statusBy s id at b d) (ne-eqb (d .count) 3 h)
 
-  pub status-left : d .end - at ≡ 3 → told (fromStatus id) at (said (drop at s)) ≡ ended (lastWord (response id (d .value))) (d .end) (drop (d .end) s)
-  status-left h = status-found ∙ ap (λ b. statusBy s id b d) (eq-eqb (d .end - at) 3 h)
+  pub status-left : d .count ≡ 3 → told (fromStatus id) at (said (drop at s)) ≡ ended (lastWord (response id (d .value))) (at + d .count) (drop (at + d .count) s)
+  status-left h = status-found ∙ ap (λ b. statusBy s id at b d) (eq-eqb (d .count) 3 h)
 
 -- ---- a name
 

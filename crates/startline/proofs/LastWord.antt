@@ -18,9 +18,9 @@ use Rattle.message.specs.StartLines.{stateText, stateOf, Started, started, goin
 use Rattle.message.specs.declared.Span.{Span}
 use Rattle.message.specs.declared.RequestState.{RequestState}
 use Rattle.message.specs.declared.RequestState.the-variants.{Pending, InProgress, Complete}
-use Rattle.startline.specs.Runs.{isNaming, begins, lastOf, lastAt}
+use Rattle.startwords.specs.Runs.{isNaming, begins, lastOf, lastAt}
 use Rattle.startline.specs.Rules.{said, told, made, lastWord}
-use Rattle.startline.specs.declared.Last.{Last}
+use Rattle.startwords.specs.declared.Last.{Last}
 use Rattle.readers.proofs.Positions.{apart}
 use Rattle.startline.proofs.Said.{ended, told-same, told-nothing}
 use Rattle.startline.proofs.Judged.{run-told}

@@ -1,4 +1,3 @@
-pub mod Positions
 pub mod Said
 pub mod Fronts
 pub mod FirstWord

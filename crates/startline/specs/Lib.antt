@@ -1,3 +1,2 @@
 pub mod StartLine
-pub mod Runs
 pub mod Rules

@@ -21,7 +21,7 @@ use Rattle.synth.specs.declared.Method.{Method}
 use Rattle.synth.specs.declared.Entry.{Entry}
 use Rattle.synth.specs.declared.LastId.the-variants.{Seen}
 use Rattle.synth.proofs.Channels.{Facts}
-use Rattle.synth.proofs.Verdicts.{then-passes, unless-passes, speak-passes, failing, failure-401, early-fair, late-fair, Fair}
+use Rattle.synth.proofs.Verdicts.{then-passes, unless-passes, speak-passes, failing, early-fair, late-fair, Fair}
 use Rattle.synth.proofs.Outcomes.{Good, early-failed, seen, late-failed, accepted, unchanged, ended}
 
 split-active : (q : List Entry) → Split (ids q) (active q) (ids (tail q))
@@ -92,7 +92,7 @@ module _ (v : View) (f : Facts v) (r : Request) (small : r .id < 4294967296) (ab
   act-good Method.Resume ok few = resume-good (v .state) refl
   act-good Method.Control ok few = control-good
   act-good Method.BargeInOccurred ok few = barge-good (v .queue)
-  act-good Method.Unknown ok few = late-failed v f r small above Method.Unknown 401 failure-401
+  act-good Method.Unknown ok few = late-failed v f r small above Method.Unknown 401 refl
 
   -- what judgements 8 and 10 leave
   late-valid : late (seen v f r small above) r ≡ passes → isValid (r .method) (isIdle (v .state)) ≡ true

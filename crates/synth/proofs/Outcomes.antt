@@ -31,7 +31,7 @@ use Rattle.synth.specs.declared.Method.{Method}
 use Rattle.synth.specs.declared.Entry.{Entry}
 use Rattle.synth.specs.declared.LastId.the-variants.{Seen}
 use Rattle.synth.proofs.Channels.{Facts, dealt-small, dealt-few}
-use Rattle.synth.proofs.Verdicts.{Failure}
+use Rattle.synth.proofs.Verdicts.{isFailure, failure-fits, no-success}
 use Rattle.synth.proofs.Names.{name-fits}
 
 -- the request as the ledger sees it
@@ -86,19 +86,19 @@ module _ (v : View) (f : Facts v) (r : Request) (small : r .id < 4294967296) whe
 
   -- a failed request, and what it leaves
   failed-as : (w : View) → Facts w → w .name ≡ v .name → held w ≡ held v → firstAbove (v .last) ≤ firstAbove (w .last)
-      → (m : Method) (status : ℕ) → Failure status → Good v m (r .id) (failed w r status)
+      → (m : Method) (status : ℕ) → isFailure status ≡ true → Good v m (r .id) (failed w r status)
   unfolding response
   failed-as w g e q b m status h =
       let n : NameFits (w .name) = rw e fits in
       record {
-        effect = rw (h .no-success, and-false (isSpeak m), and-false (isEnding m), q) (nothing (held v) (firstAbove (v .last)) (firstAbove (w .last)) b);
-        writable = (response-writable (w .name) (r .id) status Complete [] n small (h .fits) (omega arith) tt, tt);
+        effect = rw (no-success status h, and-false (isSpeak m), and-false (isEnding m), q) (nothing (held v) (firstAbove (v .last)) (firstAbove (w .last)) b);
+        writable = (response-writable (w .name) (r .id) status Complete [] n small (failure-fits status h) (omega arith) tt, tt);
         short = alone-short _ (longest-bare (w .name) (r .id) status Complete n small);
         stays-sound = g;
       }
 
   -- judgements 1 to 5
-  pub early-failed : (m : Method) (status : ℕ) → Failure status → Good v m (r .id) (failed v r status)
+  pub early-failed : (m : Method) (status : ℕ) → isFailure status ≡ true → Good v m (r .id) (failed v r status)
   early-failed m status h = failed-as v f refl refl (le-refl _) m status h
 
   -- judgement 5 passed, and the last id seen is this one
@@ -116,7 +116,7 @@ module _ (v : View) (f : Facts v) (r : Request) (small : r .id < 4294967296) whe
     }
 
     -- judgements 6 to 10
-    pub late-failed : (m : Method) (status : ℕ) → Failure status → Good v m (r .id) (failed seen r status)
+    pub late-failed : (m : Method) (status : ℕ) → isFailure status ≡ true → Good v m (r .id) (failed seen r status)
     late-failed m status h = failed-as seen seen-facts refl refl (omega arith) m status h
 
     -- a SPEAK that joins the queue

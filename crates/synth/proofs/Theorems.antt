@@ -1,5 +1,6 @@
 pub mod Table
 pub mod Readings
+pub mod Statuses
 pub mod RfcExamples
 pub mod Soundness
 pub mod Room

@@ -1,10 +1,14 @@
--- Steps of judgement: what passing says, and that no step fails with a success. Assumes nothing.
+-- Steps of judgement: what passing says, and with which statuses they fail, none of which is a success. Assumes nothing.
 use Prim.Native.Nat.{ℕ, _<_}
 use mathlib.Core.Path.{_≡_, refl}
-use mathlib.Core.Bool.{Bool, true, false, _||_, false≢true}
+use mathlib.Core.Bool.{Bool, true, false, not, _||_, false≢true}
+use mathlib.Core.List.{List, [], _∷_}
 use native.Mathlib.Omega.{arith}
-use lib.Dec.{eqb, lit<}
+use lib.Dec.{eqb, ltb}
+use borrow.Author.Tests.{ltb-true, not-true}
+use Rattle.lists.specs.Lists.{elem}
 use Rattle.lists.proofs.Tests.{choose}
+use Rattle.lists.proofs.Membership.{all-elem}
 use Rattle.synth.specs.Channel.{View}
 use Rattle.synth.specs.Request.{Request, isSpeak}
 use Rattle.synth.specs.Judgement.{Verdict, passes, fails, _then_, unless, inSpeak, version, wellFormed, addressed, ours, above, legal, amongSix, valid, content, room, early, late}
@@ -26,19 +30,27 @@ speak-passes r v s e = go (isSpeak (r .method)) s e
     go true t h = h
     go false t h = absurd (false≢true t)
 
--- three digits, and neither 200 nor 201
-pub record Failure (status : ℕ) : Type 0 where
-  pub fits : status < 1000
-  pub no-success : (eqb status 200 || eqb status 201) ≡ false
+-- the statuses of requests that fail: three digits, and neither 200 nor 201
+abbrev pub failures : List ℕ
+failures = 401 ∷ 402 ∷ 404 ∷ 405 ∷ 406 ∷ 407 ∷ 408 ∷ 409 ∷ 410 ∷ 502 ∷ []
+
+abbrev pub isFailure : ℕ → Bool
+isFailure status = elem status failures
+
+pub failure-fits : (status : ℕ) → isFailure status ≡ true → status < 1000
+failure-fits status h = ltb-true status 1000 (all-elem (λ n. ltb n 1000) status failures refl h)
+
+pub no-success : (status : ℕ) → isFailure status ≡ true → (eqb status 200 || eqb status 201) ≡ false
+no-success status h = not-true (eqb status 200 || eqb status 201) (all-elem (λ n. not (eqb n 200 || eqb n 201)) status failures refl h)
 
 abbrev Honest : Verdict → Type 0
 Honest passes = Unit {0}
-Honest (fails status) = Failure status
+Honest (fails status) = isFailure status ≡ true
 
 pub record Fair (v : Verdict) : Type 0 where
   honest : Honest v
 
-pub failing : (n : ℕ) → Fair (fails n) → Failure n
+pub failing : (n : ℕ) → Fair (fails n) → isFailure n ≡ true
 failing n h = h .honest
 
 then-fair : {a b : Verdict} → Fair a → Fair b → Fair (a then b)
@@ -49,7 +61,7 @@ then-fair {a} {b} h k = record { honest = go a (h .honest) }
     go passes h = k .honest
     go (fails n) h = h
 
-unless-fair : (b : Bool) (n : ℕ) → Failure n → Fair (unless b n)
+unless-fair : (b : Bool) (n : ℕ) → isFailure n ≡ true → Fair (unless b n)
 unfolding unless
 unless-fair b n h = record { honest = go b }
   where
@@ -60,32 +72,29 @@ unless-fair b n h = record { honest = go b }
 speak-fair : (r : Request) {v : Verdict} → Fair v → Fair (inSpeak r v)
 speak-fair r h = choose Fair (isSpeak (r .method)) (λ e. h) (λ e. record { honest = tt })
 
-pub failure-401 : Failure 401
-failure-401 = record { fits = lit< tt; no-success = refl }
-
 module _ (v : View) (r : Request) where
   pub early-fair : Fair (early v r)
   unfolding early version wellFormed addressed ours above
   early-fair =
-      then-fair (unless-fair _ _ (record { fits = lit< tt; no-success = refl }))
-      (then-fair (unless-fair _ _ (record { fits = lit< tt; no-success = refl }))
-      (then-fair (unless-fair _ _ (record { fits = lit< tt; no-success = refl }))
-      (then-fair (unless-fair _ _ (record { fits = lit< tt; no-success = refl }))
-      (unless-fair _ _ (record { fits = lit< tt; no-success = refl })))))
+      then-fair (unless-fair _ _ refl)
+      (then-fair (unless-fair _ _ refl)
+      (then-fair (unless-fair _ _ refl)
+      (then-fair (unless-fair _ _ refl)
+      (unless-fair _ _ refl))))
 
   content-fair : Fair (content r)
   unfolding content
   content-fair =
       speak-fair r
-      (then-fair (unless-fair _ _ (record { fits = lit< tt; no-success = refl }))
-      (then-fair (unless-fair _ _ (record { fits = lit< tt; no-success = refl }))
-      (unless-fair _ _ (record { fits = lit< tt; no-success = refl }))))
+      (then-fair (unless-fair _ _ refl)
+      (then-fair (unless-fair _ _ refl)
+      (unless-fair _ _ refl)))
 
   pub late-fair : Fair (late v r)
   unfolding late legal amongSix valid room
   late-fair =
-      then-fair (unless-fair _ _ (record { fits = lit< tt; no-success = refl }))
-      (then-fair (unless-fair _ _ failure-401)
-      (then-fair (unless-fair _ _ (record { fits = lit< tt; no-success = refl }))
+      then-fair (unless-fair _ _ refl)
+      (then-fair (unless-fair _ _ refl)
+      (then-fair (unless-fair _ _ refl)
       (then-fair content-fair
-      (speak-fair r (unless-fair _ _ (record { fits = lit< tt; no-success = refl }))))))
+      (speak-fair r (unless-fair _ _ refl)))))

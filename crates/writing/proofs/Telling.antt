@@ -1,19 +1,21 @@
 -- What a writer returned and left, as the call hands it back. Assumes nothing.
 use mathlib.Core.Path.{_≡_, refl, sym, ap, _∙_}
 use mathlib.Core.Bool.{Bool, true, false}
+use mathlib.Core.Option.{Option, none, some}
 use mathlib.Core.List.{List, _++_}
-use Prim.Native.Nat.{ℕ}
+use Prim.Native.Nat.{ℕ, zero, suc}
 use lib.Dec.{ltb}
 use lib.ListN.{length, drop, set}
 use Rattle.message.specs.declared.RequestState.{RequestState}
 use Rattle.answer.specs.Written as W
 use Rattle.answer.specs.Answers.{response, speakComplete}
-use Rattle.answer.specs.Delivery.{counted, delivered, causeNumber, causeAt}
+use Rattle.output.specs.Delivery.{counted, delivered}
+use Rattle.answer.specs.Causes.{causeNumber, causeAt}
 use Rattle.answer.specs.declared.Cause.{Cause}
 use Rattle.answer.specs.declared.Status.{Status}
 use Rattle.answer.specs.declared.Answer.{Answer}
-use Rattle.answer.specs.declared.Written.{Written}
-use Rattle.writing.specs.Writing.{WriteCall, wrote, Told, told, wroteEvent}
+use Rattle.output.specs.declared.Written.{Written}
+use Rattle.writing.specs.Writing.{WriteCall, wrote, Told, told, stateAt, wroteResponse, wroteEvent}
 use Rattle.answer.specs.declared.Reported.{Reported}
 
 -- w and o are what the writer of bs returned and left; t is what is told of w
@@ -41,7 +43,20 @@ tells bs place out w o t p q r =
     go true = refl
     go false = refl
 
-module _ (name ids place out : List ℕ) (id : ℕ) (s : Status) (st : RequestState) (a : Answer) (same : (a .id ≡ id) × (a .status ≡ s) × (a .state ≡ st)) where
+-- a number that is none of 1 to 3 has no state
+no-state : (n : ℕ) → (n ≡ 1 → ⊥) → (n ≡ 2 → ⊥) → (n ≡ 3 → ⊥) → none ≡ stateAt n
+no-state zero h1 h2 h3 = refl
+no-state (suc zero) h1 h2 h3 = absurd (h1 refl)
+no-state (suc (suc zero)) h1 h2 h3 = absurd (h2 refl)
+no-state (suc (suc (suc zero))) h1 h2 h3 = absurd (h3 refl)
+no-state (suc (suc (suc (suc n)))) h1 h2 h3 = refl
+
+pub state-refused : (name ids place out : List ℕ) (id status n : ℕ) → (n ≡ 1 → ⊥) → (n ≡ 2 → ⊥) → (n ≡ 3 → ⊥)
+    → record { number = 9; written = set place 0 0; out = out } ≡ wroteResponse name id status (stateAt n) ids place out
+state-refused name ids place out id status n h1 h2 h3 =
+    ap (λ (x : Option RequestState). wroteResponse name id status x ids place out) (no-state n h1 h2 h3)
+
+module _ (name ids place out : List ℕ) (id n : ℕ) (s : Status) (st : RequestState) (a : Answer) (same : (a .id ≡ id) × (a .status ≡ s) × (a .state ≡ st)) (numbered : stateAt n ≡ some st) where
   text : W.written (response name (a .id) (a .status .code) (a .state) ids) ≡ W.written (response name id (s .code) st ids)
   text =
       ap (λ (x : ℕ). W.written (response name x (a .status .code) (a .state) ids)) (same .0)
@@ -52,8 +67,10 @@ module _ (name ids place out : List ℕ) (id : ℕ) (s : Status) (st : RequestSt
       → w ≡ counted (W.written (response name (a .id) (a .status .code) (a .state) ids)) out
       → o ≡ delivered (W.written (response name (a .id) (a .status .code) (a .state) ids)) out
       → t ≡ told w place
-      → record { number = t .number; written = t .written; out = o } ≡ wrote (W.written (response name id (s .code) st ids)) place out
-  answered w o t p q r = tells _ place out w o t (p ∙ ap (λ (l : List ℕ). counted l out) text) (q ∙ ap (λ (l : List ℕ). delivered l out) text) r
+      → record { number = t .number; written = t .written; out = o } ≡ wroteResponse name id (s .code) (stateAt n) ids place out
+  answered w o t p q r =
+      tells _ place out w o t (p ∙ ap (λ (l : List ℕ). counted l out) text) (q ∙ ap (λ (l : List ℕ). delivered l out) text) r
+      ∙ ap (λ (x : Option RequestState). wroteResponse name id (s .code) x ids place out) (sym numbered)
 
 module _ (name place out : List ℕ) (id n : ℕ) (g : Reported) (p : g ≡ causeAt n) where
   pub cause-refused : g ≡ Reported.NoCause → record { number = 9; written = set place 0 0; out = out } ≡ wroteEvent name id (causeAt n) place out

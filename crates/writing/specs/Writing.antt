@@ -1,13 +1,16 @@
 -- What a call that writes one message hands back: document 01, refusal 7.
-use Prim.Native.Nat.{ℕ}
+use Prim.Native.Nat.{ℕ, zero, suc}
 use mathlib.Core.Bool.{true, false}
+use mathlib.Core.Option.{Option, none, some}
 use mathlib.Core.List.{List, _++_}
 use lib.Dec.{ltb}
 use lib.ListN.{length, drop, set}
+use Rattle.message.specs.declared.RequestState.{RequestState}
+use Rattle.message.specs.declared.RequestState.the-variants.{Pending, InProgress, Complete}
 use Rattle.answer.specs.Written as W
-use Rattle.answer.specs.Answers.{speakComplete}
-use Rattle.answer.specs.Delivery.{causeNumber}
-use Rattle.answer.specs.declared.Written.{Written}
+use Rattle.answer.specs.Answers.{response, speakComplete}
+use Rattle.answer.specs.Causes.{causeNumber}
+use Rattle.output.specs.declared.Written.{Written}
 use Rattle.answer.specs.declared.Reported.{Reported}
 
 -- a call's number, the place lent for the count written, and the lent output, as it leaves them
@@ -31,6 +34,19 @@ pub record Told : Type 0 where
 abbrev pub told : Written → List ℕ → Told
 told (Written.Count n) place = record { number = 0; written = set place 0 n }
 told Written.TooLong place = record { number = 7; written = set place 0 0 }
+
+-- the request state with a number, as include/klarvesimo.h numbers them
+abbrev pub stateAt : ℕ → Option RequestState
+stateAt zero = none
+stateAt (suc zero) = some Pending
+stateAt (suc (suc zero)) = some InProgress
+stateAt (suc (suc (suc zero))) = some Complete
+stateAt (suc (suc (suc (suc n)))) = none
+
+-- the response to request id; 9 where there is no such state
+abbrev pub wroteResponse : List ℕ → ℕ → ℕ → Option RequestState → List ℕ → List ℕ → List ℕ → WriteCall
+wroteResponse name id status none ids place out = record { number = 9; written = set place 0 0; out = out }
+wroteResponse name id status (some state) ids place out = wrote (W.written (response name id status state ids)) place out
 
 -- the event that ends request id; 9 where there is no such cause
 abbrev pub wroteEvent : List ℕ → ℕ → Reported → List ℕ → List ℕ → WriteCall

@@ -1,7 +1,7 @@
 -- `answer::cause_reported` meets its contract. Assumes nothing.
 use mathlib.Core.Path.{_≡_, sym, ap}
 use borrow.Author.Needs.{needs}
-use Rattle.answer.specs.Delivery.{causeAt}
+use Rattle.answer.specs.Causes.{causeAt}
 use Rattle.answer.proofs.Causes.{no-cause}
 use Rattle.answer.proofs.cause_reported.Statement.{statement}
 use Rattle.answer.proofs.cause_reported.Tie as tie

@@ -29,7 +29,7 @@ meets {c} {k} {r} {next} m =
     seen : Left → Reply
     seen l = record { number = l .number; consumed = l .consumed; written = take (l .written) (l .out) }
 
-runs : {s s′ : Channel} {xs : List (Seen Call Reply)} → Run Called s xs s′ → Run (Meets view) s xs s′
+pub runs : {s s′ : Channel} {xs : List (Seen Call Reply)} → Run Called s xs s′ → Run (Meets view) s xs s′
 runs ended = ended
 runs (called m u) = called (meets m) (runs u)
 

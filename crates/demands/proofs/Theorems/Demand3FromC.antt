@@ -20,17 +20,17 @@ use Rattle.calls.proofs.Leaving.{name-short, queue-short, unsound-refused}
 use Rattle.words.specs.Words.{numbersOf, viewOf}
 use Rattle.words.proofs.Theorems.LoadSaved.{load-saved}
 use Rattle.klarvesimo.specs.Face.{openFace, CallFace, keeping, turnFace, callOn, callFace}
-use Rattle.demands.specs.Demands.{heldIn, CalledFromC, Demand3OfTheFace}
+use Rattle.demands.specs.FromC.{heldIn, CalledFromC, Demand3OfTheFace}
 
 -- a view of any numbers: those that are no channel are seen as one that is not sound
-abbrev seenAs : Option View → View
+abbrev pub seenAs : Option View → View
 seenAs none = fresh []
 seenAs (some v) = v
 
-abbrev viewIn : List ℕ → View
+abbrev pub viewIn : List ℕ → View
 viewIn ws = seenAs (viewOf ws)
 
-nameless : sound (fresh []) ≡ false
+pub nameless : sound (fresh []) ≡ false
 nameless = unfold sound wellNamed in refl
 
 held-same : (o : Option View) → held (seenAs o) ≡ heldIn o
@@ -108,11 +108,11 @@ meets ws k r next c = go (viewOf ws) refl
     go none e = meets-none ws (c .out) k e (c .seen) (c .left)
     go (some v) e = meets-channel v ws (c .out) k (c .room) e (c .seen) (c .left)
 
-each-meets : {ws last : List ℕ} {calls : List (Seen Call Reply)} → Run CalledFromC ws calls last → Run (Meets viewIn) ws calls last
+pub each-meets : {ws last : List ℕ} {calls : List (Seen Call Reply)} → Run CalledFromC ws calls last → Run (Meets viewIn) ws calls last
 each-meets ended = ended
 each-meets (called {s = ws} {s′ = next} {c = k} {r = r} g run) = called (meets ws k r next g) (each-meets run)
 
-opened-numbers : (name : List ℕ) → viewIn (openFace name .channel) ≡ openChannel name .channel
+pub opened-numbers : (name : List ℕ) → viewIn (openFace name .channel) ≡ openChannel name .channel
 unfolding openFace openChannel
 opened-numbers name =
     choose (λ (o : Opened). viewIn (numbersOf (o .channel)) ≡ o .channel) (wellNamed name)

@@ -5,7 +5,7 @@ use mathlib.Core.Path.{sym, _∙_}
 use Prim.Native.Nat.{_-_}
 use native.Mathlib.Omega.{arith}
 use borrow.Author.Tests.{not-true, not-false}
-use Rattle.header.proofs.Masks.{index-small}
+use Rattle.names.proofs.Masks.{index-small}
 use Rattle.header.proofs.Onward.{Onward, soFar, outset, bad-step, has-room, step-on, body-inside, which-small, bad-length, good-length}
 use borrow.Author.Needs.{needs}
 use Rattle.header.proofs.read_header.Statement.{statement}

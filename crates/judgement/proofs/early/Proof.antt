@@ -4,7 +4,7 @@ use mathlib.Core.Option.{some}
 use borrow.Author.Tests.{not-true, not-false}
 use Rattle.synth.specs.Judgement.{fails}
 use Rattle.channel.specs.Channel.{view}
-use Rattle.request.specs.Telling.{givenOf}
+use Rattle.values.specs.Values.{givenOf}
 use Rattle.judgement.proofs.Order.{not-good, nameless, named}
 use borrow.Author.Needs.{needs}
 use Rattle.judgement.proofs.early.Statement.{statement}

@@ -7,8 +7,8 @@ use Rattle.synth.specs.Request.{methodOf}
 use Rattle.synth.specs.States as S
 use Rattle.synth.specs.declared.Method.{Method}
 use Rattle.channel.specs.Channel.{view}
-use Rattle.methods.specs.Outcomes.{asked, Makes}
-use Rattle.methods.proofs.Making.{makes-failed}
+use Rattle.outcomes.specs.Outcomes.{asked, Makes}
+use Rattle.outcomes.proofs.Making.{makes-failed}
 use Rattle.judgement.proofs.Order.{outdated, current}
 use borrow.Author.Needs.{needs}
 use Rattle.judgement.proofs.judge.Statement.{statement}

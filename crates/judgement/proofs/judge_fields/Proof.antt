@@ -1,9 +1,9 @@
 -- `judgement::judge_fields` fails early, or goes on with this id as the last one seen. Assumes nothing.
 use mathlib.Core.Path.{refl, sym, ap, subst, _∙_}
 use Rattle.channel.specs.Channel.{view}
-use Rattle.request.specs.Telling.{verdictOf}
-use Rattle.methods.specs.Outcomes.{asked, Makes}
-use Rattle.methods.proofs.Making.{makes-failed}
+use Rattle.values.specs.Values.{verdictOf}
+use Rattle.outcomes.specs.Outcomes.{asked, Makes}
+use Rattle.outcomes.proofs.Making.{makes-failed}
 use Rattle.judgement.proofs.Order.{early-fails, early-passes, seen-makes}
 use borrow.Author.Needs.{needs}
 use Rattle.judgement.proofs.judge_fields.Statement.{statement}

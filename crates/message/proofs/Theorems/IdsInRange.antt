@@ -3,11 +3,10 @@
 use mathlib.Core.Path.{_≡_}
 use mathlib.Core.List.{List}
 use Prim.Native.Nat.{ℕ, _<_}
-use Rattle.message.specs.Message.{Start, request, response, event, Fields, Head, message}
+use Rattle.message.specs.Message.{InRange, Start, request, response, event, Fields, Head, message}
 use Rattle.message.specs.Reading.{reading, heard}
 use Rattle.message.specs.declared.Span.{Span}
 use Rattle.message.specs.declared.RequestState.{RequestState}
-use Rattle.message.proofs.StartLine.{InRange}
 use Rattle.message.proofs.Says.{says, heard-ranged}
 
 -- the request-id, whichever of the three kinds it is

@@ -1,5 +1,5 @@
 -- What judgement 2 lets pass: the body ends where the frame ends and Content-Length agrees with it, so that neither length is believed
--- over the other; at most 32 fields; no known name twice.
+-- over the other; at most 32 fields, each with a name of 1 to 64 bytes; no known name twice.
 -- Assumes nothing.
 use mathlib.Core.Path.{_≡_, sym, _∙_}
 use mathlib.Core.Bool.{true}
@@ -10,6 +10,7 @@ use native.Mathlib.Omega.{arith}
 use lib.Dec.{eqb}
 use lib.ListN.{length, take}
 use borrow.Author.Tests.{eqb-true}
+use Rattle.lists.specs.Lists.{All}
 use Rattle.lists.proofs.Tests.{both}
 use Rattle.readers.specs.Words.{isNumber, numberOf}
 use Rattle.message.specs.Message.{Start, Field, good, Head, message, part, onField}
@@ -18,6 +19,7 @@ use Rattle.message.specs.Reading.{agrees, reading}
 use Rattle.message.specs.declared.Span.{Span}
 use Rattle.message.specs.declared.Known.the-variants.{ContentLength}
 use Rattle.message.proofs.Says.{frame-length, says}
+use Rattle.message.proofs.Rows.{NameFits}
 use Rattle.message.proofs.Parts.{rows-within}
 
 module _ (s : List ℕ) (h : Head) (st : Start Span) (fs : List (Field Span)) (body : Span) (e : reading s ≡ message h st (good fs body)) where
@@ -40,6 +42,9 @@ module _ (s : List ℕ) (h : Head) (st : Start Span) (fs : List (Field Span)) (b
 
   pub few : length fs ≤ 32
   few = says s h st (good fs body) e .fields .few
+
+  pub names-fit : All NameFits fs
+  names-fit = says s h st (good fs body) e .fields .names
 
   pub once : onceEach (namesOf (map (onField (part s)) fs)) ≡ true
   once = rw texts at (says s h st (good fs body) e .fields .once)

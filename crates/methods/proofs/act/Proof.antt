@@ -2,9 +2,9 @@
 use mathlib.Core.Path.{sym, subst}
 use Rattle.synth.specs.declared.Method.{Method}
 use Rattle.channel.specs.Channel.{view}
-use Rattle.methods.specs.Outcomes.{asked}
-use Rattle.methods.proofs.Making.{makes-failed, Does}
-use Rattle.methods.proofs.Methods.{unknown-fails}
+use Rattle.outcomes.specs.Outcomes.{asked}
+use Rattle.outcomes.proofs.Making.{makes-failed}
+use Rattle.methods.proofs.Methods.{Does, unknown-fails}
 use borrow.Author.Needs.{needs}
 use Rattle.methods.proofs.act.Statement.{statement}
 use Rattle.methods.proofs.act.Tie as tie

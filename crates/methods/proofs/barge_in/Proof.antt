@@ -6,9 +6,9 @@ use Rattle.synth.specs.declared.Method.{Method}
 use Rattle.synth.specs.declared.State.the-variants.{Idle}
 use Rattle.synth.specs.declared.Entry.{Entry}
 use Rattle.channel.specs.Channel.{view}
-use Rattle.methods.specs.Outcomes.{asked}
-use Rattle.methods.proofs.Making.{unchanged, none-listed, makes-success}
-use Rattle.methods.proofs.Methods.{barge-kills, barge-spares}
+use Rattle.outcomes.specs.Outcomes.{asked}
+use Rattle.outcomes.proofs.Making.{makes-success}
+use Rattle.methods.proofs.Methods.{unchanged, none-listed, barge-kills, barge-spares}
 use borrow.Author.Needs.{needs}
 use Rattle.methods.proofs.barge_in.Statement.{statement}
 use Rattle.methods.proofs.barge_in.Tie as tie

@@ -5,9 +5,9 @@ use Rattle.synth.specs.Channel.{isIdle}
 use Rattle.synth.specs.declared.Method.{Method}
 use Rattle.channel.specs.Channel.{view}
 use Rattle.channel.proofs.Views.{state-is}
-use Rattle.methods.specs.Outcomes.{asked}
-use Rattle.methods.proofs.Making.{unchanged, active-listed, makes-failed, makes-success}
-use Rattle.methods.proofs.Methods.{control-idle, control-busy}
+use Rattle.outcomes.specs.Outcomes.{asked}
+use Rattle.outcomes.proofs.Making.{makes-failed, makes-success}
+use Rattle.methods.proofs.Methods.{unchanged, active-listed, control-idle, control-busy}
 use borrow.Author.Needs.{needs}
 use Rattle.methods.proofs.control.Statement.{statement}
 use Rattle.methods.proofs.control.Tie as tie

@@ -6,9 +6,9 @@ use Rattle.synth.specs.declared.Method.{Method}
 use Rattle.synth.specs.declared.State.the-variants.{Paused}
 use Rattle.channel.specs.Channel.{view}
 use Rattle.channel.proofs.Views.{state-is}
-use Rattle.methods.specs.Outcomes.{asked}
-use Rattle.methods.proofs.Making.{active-listed, makes-failed, makes-success}
-use Rattle.methods.proofs.Methods.{pause-idle, pause-busy}
+use Rattle.outcomes.specs.Outcomes.{asked}
+use Rattle.outcomes.proofs.Making.{makes-failed, makes-success}
+use Rattle.methods.proofs.Methods.{active-listed, pause-idle, pause-busy}
 use borrow.Author.Needs.{needs}
 use Rattle.methods.proofs.pause.Statement.{statement}
 use Rattle.methods.proofs.pause.Tie as tie

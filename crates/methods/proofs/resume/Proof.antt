@@ -5,9 +5,9 @@ use Rattle.synth.specs.declared.Method.{Method}
 use Rattle.synth.specs.declared.State.the-variants.{Speaking}
 use Rattle.channel.specs.Channel.{view}
 use Rattle.channel.proofs.Views.{state-is}
-use Rattle.methods.specs.Outcomes.{asked}
-use Rattle.methods.proofs.Making.{unchanged, none-listed, active-listed, makes-failed, makes-success}
-use Rattle.methods.proofs.Methods.{resume-idle, resume-speaking, resume-paused}
+use Rattle.outcomes.specs.Outcomes.{asked}
+use Rattle.outcomes.proofs.Making.{makes-failed, makes-success}
+use Rattle.methods.proofs.Methods.{unchanged, none-listed, active-listed, resume-idle, resume-speaking, resume-paused}
 use borrow.Author.Needs.{needs}
 use Rattle.methods.proofs.resume.Statement.{statement}
 use Rattle.methods.proofs.resume.Tie as tie

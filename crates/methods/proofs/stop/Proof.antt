@@ -4,9 +4,9 @@ use mathlib.Core.Option.{none, some}
 use Rattle.message.specs.declared.RequestState.the-variants.{Complete}
 use Rattle.synth.specs.declared.Method.{Method}
 use Rattle.channel.specs.Channel.{view}
-use Rattle.request.specs.Telling.{givenOf}
-use Rattle.methods.specs.Outcomes.{asked}
-use Rattle.methods.proofs.Making.{makes-success}
+use Rattle.values.specs.Values.{givenOf}
+use Rattle.outcomes.specs.Outcomes.{asked}
+use Rattle.outcomes.proofs.Making.{makes-success}
 use Rattle.methods.proofs.Methods.{stop-legal}
 use Rattle.methods.proofs.Stops.{all-end}
 use borrow.Author.Needs.{needs}

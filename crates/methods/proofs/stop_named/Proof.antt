@@ -12,9 +12,9 @@ use Rattle.synth.specs.Judgement.{optional}
 use Rattle.synth.specs.Channel.{held}
 use Rattle.synth.specs.declared.Method.{Method}
 use Rattle.channel.specs.Channel.{view}
-use Rattle.channel.proofs.Views.{ids-16}
-use Rattle.methods.specs.Outcomes.{asked}
-use Rattle.methods.proofs.Making.{makes-failed, makes-success}
+use Rattle.queue.proofs.Queues.{ids-16}
+use Rattle.outcomes.specs.Outcomes.{asked}
+use Rattle.outcomes.proofs.Making.{makes-failed, makes-success}
 use Rattle.methods.proofs.Methods.{stop-illegal, stop-legal}
 use Rattle.methods.proofs.Stops.{held-few, named-illegal, named-those, named-end}
 use borrow.Author.Needs.{needs}

@@ -8,7 +8,7 @@ use Rattle.message.specs.Message.{part, onFields}
 use Rattle.message.specs.Reading.{fieldsFrom}
 use Rattle.message.proofs.Says.{fields-from}
 use Rattle.header.specs.Header.{headerOf}
-use Rattle.header.proofs.Theorems.Lookup.{numbers-small}
+use Rattle.header.proofs.Theorems.ValueByMask.{numbers-small}
 use Rattle.request.specs.Telling.{Tells}
 use Rattle.request.specs.Steps.{seenOf, factsOf}
 use Rattle.request.proofs.Seeing.{sees}

@@ -1,8 +1,8 @@
 -- `request::elsewhere` meets its contract.
 -- Assumes nothing.
-use Rattle.request.specs.declared.Given.{Given}
-use Rattle.request.specs.declared.Kill.{Kill}
-use Rattle.request.specs.declared.Verdict.{Verdict}
+use Rattle.values.specs.declared.Given.{Given}
+use Rattle.values.specs.declared.Kill.{Kill}
+use Rattle.values.specs.declared.Verdict.{Verdict}
 use borrow.Author.Needs.{needs}
 use Rattle.request.proofs.elsewhere.Statement.{statement}
 use Rattle.request.proofs.elsewhere.Tie as tie

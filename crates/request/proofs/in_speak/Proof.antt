@@ -1,8 +1,8 @@
 -- `request::in_speak` meets its contract.
 -- Assumes nothing.
 use mathlib.Core.Path.{ap, _∙_}
-use Rattle.request.specs.Telling.{givenOf, killOf}
-use Rattle.request.specs.declared.Given.{Given}
+use Rattle.values.specs.Values.{givenOf, killOf}
+use Rattle.values.specs.declared.Given.{Given}
 use borrow.Author.Needs.{needs}
 use Rattle.request.proofs.in_speak.Statement.{statement}
 use Rattle.request.proofs.in_speak.Tie as tie

@@ -1,7 +1,7 @@
 -- `request::in_stop` meets its contract.
 -- Assumes nothing.
-use Rattle.request.specs.declared.Kill.{Kill}
-use Rattle.request.specs.declared.Verdict.{Verdict}
+use Rattle.values.specs.declared.Kill.{Kill}
+use Rattle.values.specs.declared.Verdict.{Verdict}
 use borrow.Author.Needs.{needs}
 use Rattle.request.proofs.in_stop.Statement.{statement}
 use Rattle.request.proofs.in_stop.Tie as tie

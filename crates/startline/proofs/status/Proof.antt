@@ -1,5 +1,6 @@
 -- `startline::status` meets its contract: what is left behind the status, at each `return`. Assumes nothing.
 use mathlib.Core.Path.{_≡_, refl, sym, ap, _∙_}
+use Prim.Native.Nat.{_+_}
 use native.Mathlib.Omega.{arith}
 use lib.ListN.{drop}
 use borrow.Author.Tests.{not-true, not-false}
@@ -8,7 +9,7 @@ use Rattle.message.specs.Message.{response}
 use Rattle.startline.specs.Rules.{said, told, lastWord, fromStatus}
 use Rattle.startline.proofs.Said.{ended-space, ended-stray}
 use Rattle.readers.proofs.Positions.{starts-in}
-use Rattle.startline.proofs.Fronts.{counted}
+use Rattle.startwords.proofs.Positions.{digits-in}
 use Rattle.startline.proofs.Judged.{status-wrong, status-left}
 use Rattle.startline.proofs.LastWord.{lastBy, last-told}
 use Rattle.startline.proofs.status.Statement.{statement}
@@ -18,27 +19,29 @@ use Rattle.startline.proofs.status.Tie as tie
 last : (c : tie.After-last-state) →
     let a = c .before .before .before .before .before .before .args in
     told (fromStatus (a .id)) (a .at) (said (drop (a .at) (a .f .now)))
-    ≡ lastBy (response (a .id) (c .before .before .before .before .digits .result .value)) (c .last-state .result)
+    ≡ lastBy (response (a .id) (c .before .before .before .before .digits-at .result .value)) (c .last-state .result)
 last c =
     let a = c .before .before .before .before .before .before .args in
-    let d = c .before .before .before .before .digits in
+    let d = c .before .before .before .before .digits-at in
     let start = response (a .id) (d .result .value) in
     status-left (a .f .now) (a .id) (a .at) _ (d .ensures) (c .before .before .before .if1 .left)
-    ∙ ended-space (lastWord start) (a .f .now) (d .result .end) (sym (c .before .before .has .ensures) ∙ not-false _ (c .before .if2 .left))
+    ∙ ended-space (lastWord start) (a .f .now) (a .at + d .result .count) (sym (c .before .before .has .ensures) ∙ not-false _ (c .before .if2 .left))
     ∙ last-told start _ _ ∙ ap (lastBy start) (sym (c .last-state .ensures))
 
-digits-requires : tie.Need-digits-requires
-digits-requires c κs = search needs
-
-sub-if1 : tie.Need-sub-if1
-sub-if1 c =
-    let a = c .before .before .args in
-    omega (arith, ap (λ d. d .end) (c .digits .ensures ∙ counted 3 0 (a .at) (drop (a .at) (a .f .now)) .read))
+digits-at-requires : tie.Need-digits-at-requires
+digits-at-requires c κs = search needs
 
 returns : tie.Need-returns
 returns c =
     let a = c .before .before .before .args in
-    sym (status-wrong (a .f .now) (a .id) (a .at) _ (c .before .digits .ensures) (c .if1 .taken))
+    sym (status-wrong (a .f .now) (a .id) (a .at) _ (c .before .digits-at .ensures) (c .if1 .taken))
+
+add-end : tie.Need-add-end
+add-end c =
+    let a = c .before .before .before .args in
+    let d = c .before .digits-at in
+    let three : d .result .count ≡ 3 = c .if1 .left in
+    omega (arith, digits-in 3 (a .f .now) (a .at) (d .result) (d .ensures) (λ z. let none : d .result .count ≡ 0 = z in omega arith))
 
 has-requires : tie.Need-has-requires
 has-requires c κs = search needs
@@ -46,15 +49,15 @@ has-requires c κs = search needs
 returns-2 : tie.Need-returns-2
 returns-2 c =
     let a = c .before .before .before .before .before .args in
-    let d = c .before .before .before .digits in
+    let d = c .before .before .before .digits-at in
     sym
     (status-left (a .f .now) (a .id) (a .at) _ (d .ensures) (c .before .before .if1 .left)
-    ∙ ended-stray (lastWord (response (a .id) (d .result .value))) (a .f .now) (d .result .end) refl (sym (c .before .has .ensures) ∙ not-true _ (c .if2 .taken)))
+    ∙ ended-stray (lastWord (response (a .id) (d .result .value))) (a .f .now) (a .at + d .result .count) refl (sym (c .before .has .ensures) ∙ not-true _ (c .if2 .taken)))
 
 add-last-state : tie.Need-add-last-state
 add-last-state c =
     let a = c .before .before .before .before .before .args in
-    omega (arith, starts-in 32 (a .f .now) (c .before .before .before .digits .result .end) (sym (c .before .has .ensures) ∙ not-false _ (c .if2 .left)))
+    omega (arith, starts-in 32 (a .f .now) (a .at + c .before .before .before .digits-at .result .count) (sym (c .before .has .ensures) ∙ not-false _ (c .if2 .left)))
 
 last-state-requires : tie.Need-last-state-requires
 last-state-requires c κs = search needs
@@ -75,9 +78,9 @@ pub status-spec : {M : Type 1} → statement M
 status-spec =
     tie.close
     (tie.spec
-    digits-requires
-    sub-if1
+    digits-at-requires
     returns
+    add-end
     has-requires
     returns-2
     add-last-state

@@ -5,7 +5,7 @@ use Rattle.writing.proofs.klarvesimo_write_event.Statement.{statement}
 use Rattle.writing.proofs.klarvesimo_write_event.Tie as tie
 use Rattle.writing.proofs.klarvesimo_write_event.Reads as reads
 use Rattle.writing.proofs.klarvesimo_write_event.Lts as lts
-use Rattle.answer.proofs.complete.Reads as complete-reads
+use Rattle.output.proofs.complete.Reads as complete-reads
 use Rattle.answer.proofs.cause_reported.Reads as cause-reported-reads
 use Rattle.writing.proofs.tell.Reads as tell-reads
 

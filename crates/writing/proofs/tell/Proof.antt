@@ -1,6 +1,6 @@
 -- `writing::tell` meets its contract. Assumes nothing.
 use mathlib.Core.Path.{sym, ap}
-use Rattle.answer.specs.declared.Written.{Written}
+use Rattle.output.specs.declared.Written.{Written}
 use Rattle.writing.specs.Writing.{told}
 use borrow.Author.Needs.{needs}
 use Rattle.writing.proofs.tell.Statement.{statement}

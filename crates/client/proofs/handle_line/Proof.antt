@@ -1,0 +1,82 @@
+-- `client::handle_line` judges a request, and refuses what is none. Assumes nothing.
+use mathlib.Core.Path.{sym, ap, subst}
+use Prim.Native.Nat.{_<_}
+use lib.ListN.{length}
+use Rattle.message.specs.Message.{InRange}
+use Rattle.startline.specs.StartLine.{startOf}
+use Rattle.startline.specs.declared.Start.{Start}
+use Rattle.channel.specs.Channel.{view}
+use Rattle.calls.proofs.Leaving.{name-short, queue-short, turned, leaves-refused}
+use Rattle.client.proofs.Messages.{lineTurn}
+use borrow.Author.Needs.{needs}
+use Rattle.client.proofs.handle_line.Statement.{statement}
+use Rattle.client.proofs.handle_line.Tie as tie
+
+enum-known-start : tie.Need-enum-known-start
+enum-known-start c = search needs
+
+cast-judge : tie.Need-cast-judge
+cast-judge c =
+    let at = c .before .before .before .before .before in
+    let small : c .before .start .given .0 .1 .0 < 4294967296 = subst (λ (x : Start). InRange (startOf x)) (c .before .start .given .1) (at .pre .1) in
+    search needs
+
+judge-requires : tie.Need-judge-requires
+judge-requires c κs = search needs
+
+deliver-requires : tie.Need-deliver-requires
+deliver-requires c κs = let at = c .before .before .before .before .before .before .before in
+    (at .pre .0, c .before .judge .ensures (name-short (view (at .args .c)) (at .pre .0)) (queue-short (view (at .args .c)) (at .pre .0)) .few)
+
+enum-told : tie.Need-enum-told
+enum-told c = search needs
+
+refused-requires : tie.Need-refused-requires
+refused-requires c κs = search needs
+
+enum-told-2 : tie.Need-enum-told-2
+enum-told-2 c = search needs
+
+refused-requires-2 : tie.Need-refused-requires-2
+refused-requires-2 c κs = search needs
+
+same-length : tie.Need-same-length
+same-length c = search needs
+
+returns : tie.Need-returns
+returns c =
+    let a = c .before .before .before .before .before .before .before .before .before .before .args in
+    let turn = lineTurn (view (a .c)) (length (a .out .now)) (a .f .now) (a .major) (a .minor) (a .at) in
+    let at = c .before .before .before .before .before .before .before .before .before .before in
+    let v = view (a .c) in
+    turned (ap turn (sym (c .before .before .before .before .before .before .start .given .1)))
+    (c .before .before .deliver .ensures _ (c .before .before .before .before .judge .ensures (name-short v (at .pre .0)) (queue-short v (at .pre .0))))
+
+returns-2 : tie.Need-returns-2
+returns-2 c =
+    let a = c .before .before .before .before .before .args in
+    let turn = lineTurn (view (a .c)) (length (a .out .now)) (a .f .now) (a .major) (a .minor) (a .at) in
+    leaves-refused (a .c) 6 (length (a .f .now)) (a .out .now) (c .refused .ensures) (ap turn (c .before .enum-told .given .1))
+
+returns-3 : tie.Need-returns-3
+returns-3 c =
+    let a = c .before .before .before .before .before .args in
+    let turn = lineTurn (view (a .c)) (length (a .out .now)) (a .f .now) (a .major) (a .minor) (a .at) in
+    leaves-refused (a .c) 6 (length (a .f .now)) (a .out .now) (c .refused2 .ensures) (ap turn (c .before .enum-told2 .given .1))
+
+pub handle-line-spec : {M : Type 1} → statement M
+handle-line-spec =
+    tie.close
+    (tie.spec
+    enum-known-start
+    cast-judge
+    judge-requires
+    deliver-requires
+    enum-told
+    refused-requires
+    enum-told-2
+    refused-requires-2
+    same-length
+    returns
+    returns-2
+    returns-3)

@@ -1,0 +1,94 @@
+-- What a handled call of the C face wrote is read as the very messages that were to be said: every message of an outcome is writable, and reading
+-- inverts writing. Assumes nothing.
+use Prim.Native.Nat.{ℕ, _≤_}
+use mathlib.Core.Path.{_≡_, refl, sym, ap, subst, _∙_}
+use mathlib.Core.Bool.{Bool, true, false, not, false≢true}
+use mathlib.Core.Option.{Option, none, some}
+use mathlib.Core.List.{List, [], _∷_}
+use lib.Dec.{eqb, ltb}
+use lib.ListN.{length, take, drop}
+use lib.Seq.{take-append-seam}
+use borrow.Author.Tests.{ltb-false}
+use Rattle.lists.specs.Lists.{All}
+use Rattle.lists.proofs.Membership.{elem-head}
+use Rattle.message.specs.Message.{Message, Reading, refused, message, request, response, event}
+use Rattle.message.specs.Reading.{heard, messagesIn}
+use Rattle.message.proofs.Theorems.IdsInRange.{id-heard}
+use Rattle.answer.specs.Writable.{Writable}
+use Rattle.answer.proofs.Theorems.AnswersWritable.{complete-writable}
+use Rattle.answer.proofs.Theorems.ListsReadBack.{all-back}
+use Rattle.synth.specs.Channel.{View, ids, sound}
+use Rattle.synth.specs.Request.{requestOf}
+use Rattle.synth.specs.Calls.{Lent, input, cause}
+use Rattle.synth.specs.declared.Entry.{Entry}
+use Rattle.synth.proofs.Channels.{Facts, sound-facts, held-small}
+use Rattle.synth.proofs.Methods.{judge-good}
+use Rattle.synth.proofs.Names.{name-fits}
+use Rattle.words.specs.Words.{viewOf}
+use Rattle.klarvesimo.specs.Face.{CallFace, callFace}
+use Rattle.demands.specs.Demands.{Line, table, firstDue, answering, ending, outcome, exact}
+use Rattle.demands.specs.FromC.{lineFace, tableFace, ReadBackOfTheFace}
+use Rattle.demands.proofs.Lines.{not-0}
+use Rattle.demands.proofs.Theorems.Demand1FromC.{demand1-of-the-face}
+
+abbrev Due : Option Line → Type 0
+Due none = ⊥
+Due (some l) = Unit {0}
+
+module _ (v : View) (f : Facts v) where
+  answer-writable : (s : List ℕ) (m : Reading (List ℕ)) → heard s ≡ m → All Writable (answering v m .says)
+  answer-writable s (refused n k) e = tt
+  answer-writable s (message h (request name id) fs) e = judge-good v f (requestOf h name id fs) (id-heard s h (request name id) fs e) .writable
+  answer-writable s (message h (response id status state) fs) e = tt
+  answer-writable s (message h (event name id state) fs) e = tt
+
+  event-writable : (n : ℕ) → n ≤ 7 → (q : List Entry) → v .queue ≡ q → All Writable (ending v q n .says)
+  event-writable n h [] e = tt
+  event-writable n h (x ∷ q) e =
+      let id = held-small f (x .id) (rw e (elem-head (x .id) (ids q))) in
+      (complete-writable (v .name) (x .id) n (name-fits (v .name) (f .named)) id h, tt)
+
+-- where no line is due, the channel is sound and a report has a cause
+module _ (v : View) (room : ℕ) where
+  damaged : (lent : Lent) → sound v ≡ false → Due (firstDue (table v lent room))
+  unfolding table
+  damaged (input s) b = rw (b, table) tt
+  damaged (cause n) b = rw (b, table) tt
+
+  sane : (lent : Lent) → firstDue (table v lent room) ≡ none → sound v ≡ true
+  sane lent e = go (sound v) refl
+    where
+      go : (b : Bool) → sound v ≡ b → sound v ≡ true
+      go true b = b
+      go false b = absurd (subst Due e (damaged lent b))
+
+  no-cause : (n : ℕ) → sound v ≡ true → ltb 7 n ≡ true → Due (firstDue (table v (cause n) room))
+  unfolding table
+  no-cause n b h = rw (b, h, table) tt
+
+  a-cause : (n : ℕ) → firstDue (table v (cause n) room) ≡ none → n ≤ 7
+  a-cause n e = go (ltb 7 n) refl
+    where
+      go : (b : Bool) → ltb 7 n ≡ b → n ≤ 7
+      go true h = absurd (subst Due e (no-cause n (sane (cause n) e) h))
+      go false h = ltb-false 7 n h
+
+  writable : (lent : Lent) → firstDue (table v lent room) ≡ none → All Writable (outcome v lent .says)
+  writable (input s) e = answer-writable v (sound-facts v (sane (input s) e)) s (heard s) refl
+  writable (cause n) e = event-writable v (sound-facts v (sane (cause n) e)) n (a-cause n e) (v .queue) refl
+
+-- what a call that returned 0 wrote
+abbrev Back : View → Lent → CallFace → Type 0
+Back v lent f = f .number ≡ 0 → messagesIn (f .written) (take (f .written) (f .out)) ≡ outcome v lent .says
+
+by-line : (v : View) (ws : List ℕ) (lent : Lent) (out : List ℕ) (o : Option Line) → firstDue (table v lent (length out)) ≡ o
+    → Back v lent (lineFace o v ws lent out)
+by-line v ws lent out none e z =
+    let answer = exact v lent in
+    ap (messagesIn (length answer)) (take-append-seam answer (drop (length answer) out)) ∙ all-back (outcome v lent .says) (writable v (length out) lent e)
+by-line v ws lent out (some l) e z = absurd (not-0 v lent (length out) l e z)
+
+pub read-back-of-the-face : ReadBackOfTheFace
+read-back-of-the-face ws v lent out is =
+    subst (Back v lent) (sym (demand1-of-the-face ws lent out ∙ ap (λ (o : Option View). tableFace o ws lent out) is))
+    (by-line v ws lent out (firstDue (table v lent (length out))) refl)

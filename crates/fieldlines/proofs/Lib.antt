@@ -1,0 +1,4 @@
+pub mod Runs
+pub mod Classed
+pub mod ByRuns
+pub mod Lining

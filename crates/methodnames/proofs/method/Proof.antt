@@ -1,0 +1,113 @@
+-- `methodnames::method` meets its contract: the length says which name to compare with.
+-- Assumes nothing.
+use mathlib.Core.Path.{sym, ap, _∙_}
+use Rattle.synth.specs.Request.{orElse}
+use Rattle.synth.specs.declared.Method.the-variants.{Stop, Pause, Resume, Control, BargeInOccurred, Unknown}
+use Rattle.methodnames.proofs.Methods.{is-speak, no-speak, four, six, seven, seventeen, none}
+use borrow.Author.Needs.{needs}
+use Rattle.methodnames.proofs.method.Statement.{statement}
+use Rattle.methodnames.proofs.method.Tie as tie
+
+slice-aggregate-equal : tie.Need-slice-aggregate-equal
+slice-aggregate-equal c = search needs
+
+equal-requires : tie.Need-equal-requires
+equal-requires c κs = search needs
+
+or-unknown-requires : tie.Need-or-unknown-requires
+or-unknown-requires c κs = search needs
+
+slice-aggregate-equal-2 : tie.Need-slice-aggregate-equal-2
+slice-aggregate-equal-2 c = search needs
+
+equal-requires-2 : tie.Need-equal-requires-2
+equal-requires-2 c κs = search needs
+
+returns : tie.Need-returns
+returns c = is-speak (c .before .before .before .before .before .args .name .now) (sym (c .before .equal2 .ensures) ∙ c .if1 .taken)
+
+slice-aggregate-equal-3 : tie.Need-slice-aggregate-equal-3
+slice-aggregate-equal-3 c = search needs
+
+equal-requires-3 : tie.Need-equal-requires-3
+equal-requires-3 c κs = search needs
+
+or-unknown-requires-2 : tie.Need-or-unknown-requires-2
+or-unknown-requires-2 c κs = search needs
+
+slice-aggregate-equal-4 : tie.Need-slice-aggregate-equal-4
+slice-aggregate-equal-4 c = search needs
+
+equal-requires-4 : tie.Need-equal-requires-4
+equal-requires-4 c κs = search needs
+
+or-unknown-requires-3 : tie.Need-or-unknown-requires-3
+or-unknown-requires-3 c κs = search needs
+
+slice-aggregate-equal-5 : tie.Need-slice-aggregate-equal-5
+slice-aggregate-equal-5 c = search needs
+
+equal-requires-5 : tie.Need-equal-requires-5
+equal-requires-5 c κs = search needs
+
+or-unknown-requires-4 : tie.Need-or-unknown-requires-4
+or-unknown-requires-4 c κs = search needs
+
+slice-aggregate-equal-6 : tie.Need-slice-aggregate-equal-6
+slice-aggregate-equal-6 c = search needs
+
+equal-requires-6 : tie.Need-equal-requires-6
+equal-requires-6 c κs = search needs
+
+or-unknown-requires-5 : tie.Need-or-unknown-requires-5
+or-unknown-requires-5 c κs = search needs
+
+returns-2 : tie.Need-returns-2
+returns-2 c = c .or-unknown .ensures ∙ ap (λ b. orElse b Stop Unknown) (c .before .equal .ensures) ∙ four (c .before .before .before .before .before .args .name .now) (search needs)
+
+returns-3 : tie.Need-returns-3
+returns-3 c =
+    let n = c .before .before .before .before .before .before .before .before .args .name .now in
+    c .or-unknown2 .ensures ∙ ap (λ b. orElse b Pause Unknown) (c .before .equal3 .ensures)
+    ∙ no-speak n (search needs) (sym (c .before .before .before .before .equal2 .ensures) ∙ c .before .before .before .if1 .left)
+
+returns-4 : tie.Need-returns-4
+returns-4 c = c .or-unknown3 .ensures ∙ ap (λ b. orElse b Resume Unknown) (c .before .equal4 .ensures) ∙ six (c .before .before .before .before .before .args .name .now) (search needs)
+
+returns-5 : tie.Need-returns-5
+returns-5 c = c .or-unknown4 .ensures ∙ ap (λ b. orElse b Control Unknown) (c .before .equal5 .ensures) ∙ seven (c .before .before .before .before .before .args .name .now) (search needs)
+
+returns-6 : tie.Need-returns-6
+returns-6 c = c .or-unknown5 .ensures ∙ ap (λ b. orElse b BargeInOccurred Unknown) (c .before .equal6 .ensures) ∙ seventeen (c .before .before .before .before .before .args .name .now) (search needs)
+
+returns-7 : tie.Need-returns-7
+returns-7 c = let r = c .match .rest in none (c .before .before .args .name .now) (r .0 .0 .0 .0 .1) (r .0 .0 .0 .1) (r .0 .0 .1) (r .0 .1) (r .1)
+
+pub method-spec : {M : Type 1} → statement M
+method-spec =
+    tie.close
+    (tie.spec
+    slice-aggregate-equal
+    equal-requires
+    or-unknown-requires
+    slice-aggregate-equal-2
+    equal-requires-2
+    returns
+    slice-aggregate-equal-3
+    equal-requires-3
+    or-unknown-requires-2
+    slice-aggregate-equal-4
+    equal-requires-4
+    or-unknown-requires-3
+    slice-aggregate-equal-5
+    equal-requires-5
+    or-unknown-requires-4
+    slice-aggregate-equal-6
+    equal-requires-6
+    or-unknown-requires-5
+    returns-2
+    returns-3
+    returns-4
+    returns-5
+    returns-6
+    returns-7)

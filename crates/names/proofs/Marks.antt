@@ -1,0 +1,140 @@
+-- Names that came one after the other: their bits in the mask, the number of the field that each is, and whether one came twice.
+-- Assumes nothing.
+use mathlib.Core.Path.{_≡_, refl, sym, ap, _∙_}
+use mathlib.Core.Bool.{Bool, true, false, not, _&&_, _||_, or-assoc, or-true, or-false, and-false, false≢true}
+use mathlib.Core.Logic.{⊎-elim}
+use mathlib.Core.List.{List, [], _∷_, _++_}
+use Prim.Native.Nat.{ℕ, zero, suc, _+_, _%_, _≤_, _<_}
+use native.Mathlib.Nat.{add-zero, add-suc, suc-add, div-eq-of-lt}
+use native.Mathlib.Omega.{arith}
+use lib.Bits.{bitAnd, bitOr}
+use lib.Dec.{eqb, lit<}
+use lib.ListN.{length, getD, set, replicate}
+use lib.Pow.{pow-pos}
+use lib.Seq.{getD-set-other}
+use borrow.Author.Tests.{eqb-true, eqb-false, eq-eqb, not-true}
+use Rattle.lists.proofs.Tests.{both, either, refuted}
+use Rattle.message.specs.Known.{indexOf, is, isKnown, among, onceEach}
+use Rattle.message.specs.declared.Known.{Known}
+use Rattle.names.specs.Names.{bitOf, maskWith, whichFrom}
+use Rattle.lists.specs.Lists.{bit}
+use Rattle.names.specs.Steps.{knownBit}
+use Rattle.names.proofs.Masks.{test-name, set-name}
+
+-- a name more
+pub mask-last : (m : ℕ) (ks : List Known) (k : Known) → maskWith m (ks ++ k ∷ []) ≡ bitOr (maskWith m ks) (bitOf k)
+mask-last m [] k = refl
+mask-last m (j ∷ ks) k = mask-last (bitOr m (bitOf j)) ks k
+
+pub which-last : (j : ℕ) (ks : List Known) (k : Known) (w : List ℕ) → whichFrom j (ks ++ k ∷ []) w ≡ set (whichFrom j ks w) (indexOf k) (j + length ks)
+which-last j [] k w = rw (add-zero j)
+which-last j (x ∷ ks) k w =
+    let w′ = set w (indexOf x) j in
+    which-last (suc j) ks k w′ ∙ ap (set (whichFrom (suc j) ks w′) (indexOf k)) (suc-add j (length ks) ∙ sym (add-suc j (length ks)))
+
+-- names are the same where their numbers are
+pub among-same : (j k : Known) → indexOf j ≡ indexOf k → (ks : List Known) → among j ks ≡ among k ks
+among-same j k e [] = refl
+among-same j k e (x ∷ ks) = rw (e, among-same j k e ks)
+
+pub known-same : (j k : Known) → indexOf j ≡ indexOf k → isKnown j ≡ isKnown k
+known-same j k e = rw e
+
+is-sym : (j k : Known) → is j k ≡ true → is k j ≡ true
+is-sym j k e = eq-eqb (indexOf k) (indexOf j) (sym (eqb-true (indexOf j) (indexOf k) e))
+
+among-append : (k : Known) (ks js : List Known) → among k (ks ++ js) ≡ (among k ks || among k js)
+among-append k [] js = refl
+among-append k (x ∷ ks) js = rw (among-append k ks js, or-assoc)
+
+-- a name's bit is set where the name came
+swap : (a b c : Bool) → (a || (b || c)) ≡ ((b || a) || c)
+swap true true c = refl
+swap true false c = refl
+swap false true c = refl
+swap false false c = refl
+
+mask-bit : (m : ℕ) (ks : List Known) (k : Known) → bit (maskWith m ks) (indexOf k) ≡ (among k ks || bit m (indexOf k))
+mask-bit m [] k = refl
+mask-bit m (j ∷ ks) k =
+    mask-bit (bitOr m (bitOf j)) ks k ∙ ap (λ b. among k ks || b) (set-name m j k) ∙ swap (among k ks) (is k j) (bit m (indexOf k))
+
+none-set : (i : ℕ) → bit 0 i ≡ false
+none-set i = ap (λ n. eqb (n % 2) 1) (div-eq-of-lt (pow-pos i))
+
+pub mask-test : (ks : List Known) (k : Known) → eqb (bitAnd (maskWith 0 ks) (knownBit k)) 0 ≡ not (isKnown k && among k ks)
+mask-test ks k =
+    test-name (maskWith 0 ks) k
+    ∙ ap (λ b. not (isKnown k && b)) (mask-bit 0 ks k ∙ ap (λ b. among k ks || b) (none-set (indexOf k)) ∙ or-false (among k ks))
+
+conj : (a b : Bool) → a ≡ true → b ≡ true → (a && b) ≡ true
+conj a b p q = rw (p, q)
+
+-- a name that did not come yet
+module _ (k : Known) where
+  fresh : (j : Known) (ks : List Known) → not (isKnown j && among j ks) ≡ true → (isKnown k && (is k j || among k ks)) ≡ false
+      → (isKnown j && among j (ks ++ k ∷ [])) ≡ true → ⊥
+  fresh j ks first h e =
+      let (known, came) = both (isKnown j) (among j (ks ++ k ∷ [])) e in
+      ⊎-elim {C = ⊥}
+      (λ a. false≢true (sym (not-true (isKnown j && among j ks) first) ∙ conj (isKnown j) (among j ks) known a))
+      (λ i. let same = rw or-false at i in false≢true (sym h ∙ conj (isKnown k) (is k j || among k ks)
+      (known-same k j (sym (eqb-true (indexOf j) (indexOf k) same)) ∙ known) (ap (λ b. b || among k ks) (is-sym j k same))))
+      (either (among j ks) (is j k || false) (sym (among-append j ks (k ∷ [])) ∙ came))
+
+  or-right : (a b c : Bool) → (a && (b || c)) ≡ false → (a && c) ≡ false
+  or-right true true c e = absurd (false≢true (sym e))
+  or-right true false c e = e
+  or-right false b c e = refl
+
+  pub once-last : (ks : List Known) → onceEach ks ≡ true → (isKnown k && among k ks) ≡ false → onceEach (ks ++ k ∷ []) ≡ true
+  once-last [] o h = rw and-false
+  once-last (j ∷ ks) o h =
+      let (first, rest) = both (not (isKnown j && among j ks)) (onceEach ks) o in
+      rw (refuted (isKnown j && among j (ks ++ k ∷ [])) (fresh j ks first h)) (once-last ks rest (or-right (isKnown k) (is k j) (among k ks) h))
+
+  -- a known name that came already, whatever comes after it
+  module _ (js : List Known) where
+    again : (j : Known) (ks : List Known) → isKnown k ≡ true → is k j ≡ true → (isKnown j && among j (ks ++ k ∷ js)) ≡ true
+    again j ks known e =
+        conj (isKnown j) (among j (ks ++ k ∷ js)) (known-same j k (sym (eqb-true (indexOf k) (indexOf j) e)) ∙ known)
+        (among-append j ks (k ∷ js) ∙ ap (λ b. among j ks || (b || among j js)) (is-sym k j e) ∙ or-true (among j ks))
+
+    pub twice-never : (ks : List Known) → (isKnown k && among k ks) ≡ true → onceEach (ks ++ k ∷ js) ≡ false
+    twice-never [] h = absurd (false≢true (both (isKnown k) false h .1))
+    twice-never (j ∷ ks) h =
+        let (known, came) = both (isKnown k) (is k j || among k ks) h in
+        ⊎-elim {C = onceEach ((j ∷ ks) ++ k ∷ js) ≡ false}
+        (λ e. rw (again j ks known e))
+        (λ e. rw (twice-never ks (conj (isKnown k) (among k ks) known e), and-false))
+        (either (is k j) (among k ks) came)
+
+-- names that are not k leave its number alone
+pub which-kept : (j : ℕ) (ks : List Known) (w : List ℕ) (k : Known) → among k ks ≡ false → getD (whichFrom j ks w) (indexOf k) 0 ≡ getD w (indexOf k) 0
+which-kept j [] w k h = refl
+which-kept j (x ∷ ks) w k h = which-kept (suc j) ks (set w (indexOf x) j) k (go (is k x) (among k ks) h .1)
+    ∙ getD-set-other w (indexOf x) (indexOf k) j 0 (eqb-false (indexOf k) (indexOf x) (go (is k x) (among k ks) h .0))
+  where
+    go : (a b : Bool) → (a || b) ≡ false → (a ≡ false) × (b ≡ false)
+    go true b e = absurd (false≢true (sym e))
+    go false b e = (refl, e)
+
+-- a number that stands for a name is that of a field
+set-below : (n : ℕ) (w : List ℕ) (p v : ℕ) → ((i : ℕ) → getD w i 0 < n) → v < n → (i : ℕ) → getD (set w p v) i 0 < n
+set-below n [] p v h l i = h i
+set-below n (x ∷ w) zero v h l zero = l
+set-below n (x ∷ w) zero v h l (suc i) = h (suc i)
+set-below n (x ∷ w) (suc p) v h l zero = h 0
+set-below n (x ∷ w) (suc p) v h l (suc i) = set-below n w p v (λ i. h (suc i)) l i
+
+which-under : (n j : ℕ) (ks : List Known) (w : List ℕ) → ((i : ℕ) → getD w i 0 < n) → j + length ks ≤ n → (i : ℕ) → getD (whichFrom j ks w) i 0 < n
+which-under n j [] w h l = h
+which-under n j (k ∷ ks) w h l = which-under n (suc j) ks (set w (indexOf k) j) (set-below n w (indexOf k) j h (omega arith)) (omega arith)
+
+zeros : (m i : ℕ) → getD (replicate m 0) i 0 < 32
+zeros zero i = lit< tt
+zeros (suc m) zero = lit< tt
+zeros (suc m) (suc i) = zeros m i
+
+pub which-below : (ks : List Known) → length ks ≤ 32 → (i : ℕ) → getD (whichFrom 0 ks (replicate 16 0)) i 0 < 32
+which-below ks h = which-under 32 0 ks (replicate 16 0) (zeros 16) (omega arith)

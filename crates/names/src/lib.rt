@@ -1,0 +1,109 @@
+// Known field names and the mask of those that came: document 01, "Fields" and judgement 2.
+ghost use mathlib.Core.Path.{_≡_};
+ghost use Rattle.message.specs.Known.{orElse, knownOf, indexOf};
+ghost use Rattle.message.specs.declared.Known.the-variants.{Unknown};
+ghost use Rattle.names.specs.Names.{bitOf};
+ghost use Rattle.names.specs.Steps.{mayCome};
+
+// The name `k`, where the comparison with it held.
+fn or_unknown(same: bool, k: message::Known) -> message::Known
+    ensures { λ r. ⌜ r ≡ orElse same k Unknown ⌝ }
+{
+    if same { k } else { message::Known::Unknown }
+}
+
+// Which known name `n` is: no two of them are equally long. In the usual spelling most bytes are equal as they are.
+pub fn known(n: &[u8]) -> message::Known
+    ensures { λ r. ⌜ r ≡ knownOf (now (n .entry)) ⌝ }
+{
+    match n.len() {
+        11 => or_unknown(octets::alike(n, b"Logging-Tag"), message::Known::LoggingTag),
+        12 => or_unknown(
+            octets::alike(n, b"Content-Type"),
+            message::Known::ContentType,
+        ),
+        13 => or_unknown(
+            octets::alike(n, b"Proxy-Sync-Id"),
+            message::Known::ProxySyncId,
+        ),
+        14 => or_unknown(
+            octets::alike(n, b"Content-Length"),
+            message::Known::ContentLength,
+        ),
+        16 => or_unknown(
+            octets::alike(n, b"Kill-On-Barge-In"),
+            message::Known::KillOnBargeIn,
+        ),
+        18 => or_unknown(
+            octets::alike(n, b"Channel-Identifier"),
+            message::Known::ChannelIdentifier,
+        ),
+        22 => or_unknown(
+            octets::alike(n, b"Active-Request-Id-List"),
+            message::Known::ActiveRequestIdList,
+        ),
+        _ => message::Known::Unknown,
+    }
+}
+
+// The names' bits in the mask; the last one says that a field with another name came.
+pub const CHANNEL_IDENTIFIER: u16 = 1;
+
+pub const CONTENT_LENGTH: u16 = 2;
+
+pub const CONTENT_TYPE: u16 = 4;
+
+pub const ACTIVE_REQUEST_ID_LIST: u16 = 8;
+
+pub const KILL_ON_BARGE_IN: u16 = 16;
+
+pub const PROXY_SYNC_ID: u16 = 32;
+
+pub const LOGGING_TAG: u16 = 64;
+
+pub const OTHER_NAME: u16 = 128;
+
+// The known ones together.
+const KNOWN_NAMES: u16 = 127;
+
+// A name's bit in the mask, and its number.
+pub fn bit(k: message::Known) -> u16
+    ensures { λ r. ⌜ r ≡ bitOf k ⌝ }
+{
+    match k {
+        message::Known::ChannelIdentifier => CHANNEL_IDENTIFIER,
+        message::Known::ContentLength => CONTENT_LENGTH,
+        message::Known::ContentType => CONTENT_TYPE,
+        message::Known::ActiveRequestIdList => ACTIVE_REQUEST_ID_LIST,
+        message::Known::KillOnBargeIn => KILL_ON_BARGE_IN,
+        message::Known::ProxySyncId => PROXY_SYNC_ID,
+        message::Known::LoggingTag => LOGGING_TAG,
+        message::Known::Unknown => OTHER_NAME,
+    }
+}
+
+pub fn index(k: message::Known) -> usize
+    ensures { λ r. ⌜ r ≡ indexOf k ⌝ }
+{
+    match k {
+        message::Known::ChannelIdentifier => 0,
+        message::Known::ContentLength => 1,
+        message::Known::ContentType => 2,
+        message::Known::ActiveRequestIdList => 3,
+        message::Known::KillOnBargeIn => 4,
+        message::Known::ProxySyncId => 5,
+        message::Known::LoggingTag => 6,
+        message::Known::Unknown => 7,
+    }
+}
+
+// After `count` fields there may be one more, and its name `k`, if it is known, did not come yet.
+pub fn may_come(count: usize, mask: u16, k: message::Known) -> bool
+    ensures { λ r. ⌜ r ≡ mayCome count mask k ⌝ }
+{
+    if count < 32 {
+        mask & (bit(k) & KNOWN_NAMES) == 0
+    } else {
+        false
+    }
+}

@@ -1,0 +1,17 @@
+-- `outcomes::failed` puts the status and no list together. Assumes nothing.
+use Rattle.outcomes.proofs.Making.{answer-is, outcome-is}
+use borrow.Author.Needs.{needs}
+use Rattle.outcomes.proofs.failed.Statement.{statement}
+use Rattle.outcomes.proofs.failed.Tie as tie
+
+complete-requires : tie.Need-complete-requires
+complete-requires c κs = search needs
+
+list-none-requires : tie.Need-list-none-requires
+list-none-requires c κs = search needs
+
+returns : tie.Need-returns
+returns c = outcome-is (answer-is _ _ _ _ (c .before .complete .ensures)) (c .list-none .ensures)
+
+pub failed-spec : {M : Type 1} → statement M
+failed-spec = tie.close (tie.spec complete-requires list-none-requires returns)

@@ -1,0 +1,14 @@
+-- `startwords::is_capital` meets its contract. Assumes nothing.
+use borrow.Author.Needs.{needs}
+use borrow.Author.Tests.{lt-leb, le-leb}
+use Rattle.startwords.proofs.is_capital.Statement.{statement}
+use Rattle.startwords.proofs.is_capital.Tie as tie
+
+returns : tie.Need-returns
+returns c = rw (lt-leb 65 (c .before .args .b) (search needs))
+
+returns-2 : tie.Need-returns-2
+returns-2 c = rw (le-leb 65 (c .before .args .b) (search needs))
+
+pub is-capital-spec : {M : Type 1} → statement M
+is-capital-spec = tie.close (tie.spec returns returns-2)

@@ -1,0 +1,20 @@
+-- `values::given_at` meets its contract.
+-- Assumes nothing.
+use mathlib.Core.Path.{sym, ap, _∙_}
+use mathlib.Core.Bool.{true, false}
+use Rattle.values.specs.declared.Given.{Given}
+use borrow.Author.Needs.{needs}
+use Rattle.values.proofs.given_at.Statement.{statement}
+use Rattle.values.proofs.given_at.Tie as tie
+
+meets-requires : tie.Need-meets-requires
+meets-requires c κs = search needs
+
+returns : tie.Need-returns
+returns c = sym (ap {B = Given} (λ t. elim t [ true ↦ Given.At (c .before .before .args .p) | false ↦ Given.Nothing ]) (sym (c .before .meets .ensures) ∙ c .if1 .taken))
+
+returns-2 : tie.Need-returns-2
+returns-2 c = sym (ap {B = Given} (λ t. elim t [ true ↦ Given.At (c .before .before .args .p) | false ↦ Given.Nothing ]) (sym (c .before .meets .ensures) ∙ c .if1 .left))
+
+pub given-at-spec : {M : Type 1} → statement M
+given-at-spec = tie.close (tie.spec meets-requires returns returns-2)

@@ -1,0 +1,99 @@
+// What the value of a field that acts in a request says: document 01, "Fields", and judgements 6 and 9.
+ghost use mathlib.Core.Path.{_≡_};
+ghost use mathlib.Core.Option.{some};
+ghost use lib.Dec.{eqb};
+ghost use Rattle.message.specs.Message.{part};
+ghost use Rattle.synth.specs.Judgement.{isSpeechType};
+ghost use Rattle.values.specs.Values.{givenOf, killOf};
+ghost use Rattle.values.specs.Steps.{meets, givenBy, contentBy};
+
+// The value of a field that acts in the request's method: its place in the frame, where the field came.
+pub enum Given {
+    Nothing,
+    At(message::Span),
+}
+
+// What Kill-On-Barge-In says: `true` or nothing, `false`, or neither.
+pub enum Kill {
+    Killable,
+    Spared,
+    Illegal,
+}
+
+// A judgement passes, or fails with a status.
+pub enum Verdict {
+    Passes,
+    Fails(answer::Status),
+}
+
+// One of the names of a set came.
+pub fn meets(mask: u16, set: u16) -> bool
+    ensures { λ r. ⌜ r ≡ meets mask set ⌝ }
+{
+    mask & set != 0
+}
+
+// The value at `p`, where the name with the bit `b` came.
+pub fn given_at(mask: u16, b: u16, p: message::Span) -> Given
+    ensures { λ r. ⌜ r ≡ givenBy mask b p ⌝ }
+{
+    if meets(mask, b) {
+        return Given::At(p);
+    }
+    Given::Nothing
+}
+
+// What the value of Kill-On-Barge-In says.
+fn flag(v: &[u8]) -> Kill
+    ensures { λ r. ⌜ r ≡ killOf (some (now (v .entry))) ⌝ }
+{
+    if octets::alike(v, b"true") {
+        return Kill::Killable;
+    }
+    if octets::alike(v, b"false") {
+        return Kill::Spared;
+    }
+    Kill::Illegal
+}
+
+// Kill-On-Barge-In is true where it is not given.
+pub fn kill_of(f: &[u8], g: Given) -> Kill
+    ensures { λ r. ⌜ r ≡ killOf (givenOf (now (f .entry)) g) ⌝ }
+{
+    match g {
+        Given::Nothing => Kill::Killable,
+        Given::At(p) => flag(message::part(f, p)),
+    }
+}
+
+// One of the three types, in any case and with nothing after.
+fn is_speech_type(t: &[u8]) -> bool
+    ensures { λ r. ⌜ r ≡ isSpeechType (now (t .entry)) ⌝ }
+{
+    if octets::alike(t, b"text/plain") {
+        return true;
+    }
+    if octets::alike(t, b"application/ssml+xml") {
+        return true;
+    }
+    octets::alike(t, b"text/uri-list")
+}
+
+// Judgement 9 of a SPEAK.
+pub fn content(f: &[u8], mask: u16, media: message::Span, body: usize) -> Verdict
+    ensures { λ r. ⌜ r ≡ contentBy (meets mask 2) (meets mask 4) (eqb body 0) (isSpeechType (part (now (f .entry)) media)) ⌝ }
+{
+    if !meets(mask, names::CONTENT_LENGTH) {
+        return Verdict::Fails(answer::Status::field_missing());
+    }
+    if !meets(mask, names::CONTENT_TYPE) {
+        return Verdict::Fails(answer::Status::field_missing());
+    }
+    if body == 0 {
+        return Verdict::Fails(answer::Status::no_content());
+    }
+    if !is_speech_type(message::part(f, media)) {
+        return Verdict::Fails(answer::Status::unsupported_value());
+    }
+    Verdict::Passes
+}
