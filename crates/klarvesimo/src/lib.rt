@@ -29,7 +29,7 @@ pub extern "C" fn klarvesimo_handle(
     counts[0] = 0;
     counts[1] = 0;
     let ws = *channel;
-    let l = words::load(&ws);
+    let l = loading::load(&ws);
     if !l.fits {
         return 21;
     }
@@ -57,7 +57,7 @@ pub extern "C" fn klarvesimo_report(
 {
     written[0] = 0;
     let ws = *channel;
-    let l = words::load(&ws);
+    let l = loading::load(&ws);
     if !l.fits {
         return 21;
     }
@@ -91,7 +91,7 @@ pub extern "C" fn klarvesimo_held(channel: &[u64; 64], ids: &mut [u64], count: &
     ensures { λ r. ⌜ record { number = r; count = now (count .exit); ids = now (ids .exit) } ≡ listed (now (count .entry)) (heldFace (now (channel .entry)) (now (ids .entry))) ⌝ }
 {
     count[0] = 0;
-    let l = words::load(channel);
+    let l = loading::load(channel);
     if !l.fits {
         return 21;
     }

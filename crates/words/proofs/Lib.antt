@@ -1,3 +1,2 @@
-mod Loading
 mod Saving
 pub mod Theorems

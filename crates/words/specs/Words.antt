@@ -1,6 +1,5 @@
 -- A channel as 64 numbers: state, last id seen, count, size, the queue from 4 on, the name from 20 on.
 use Prim.Native.Nat.{ℕ, zero, suc, _+_, _-_, _*_, _/_, _%_}
-use mathlib.Core.Path.{_≡_}
 use mathlib.Core.Bool.{Bool, true, false, cond}
 use mathlib.Core.Option.{Option, none, some}
 use mathlib.Core.List.{List, [], _∷_, _++_, map}
@@ -12,8 +11,6 @@ use Rattle.synth.specs.declared.State.the-variants.{Idle, Speaking, Paused}
 use Rattle.synth.specs.declared.Entry.{Entry}
 use Rattle.synth.specs.declared.LastId.{LastId}
 use Rattle.synth.specs.declared.LastId.the-variants.{NoneSeen, Seen}
-use Rattle.channel.specs.Channel.{view}
-use Rattle.words.specs.declared.Loaded.{Loaded}
 
 abbrev pub stateNumber : State → ℕ
 stateNumber Idle = 0
@@ -68,11 +65,6 @@ viewOf ws = viewAt ws (stateAt (getD ws 0 0))
 abbrev pub isSound : Option View → Bool
 isSound none = false
 isSound (some v) = sound v
-
--- what is loaded: the channel that the numbers are, or they are no sound one
-pub record Loads (ws : List ℕ) (r : Loaded) : Type 0 where
-  pub fit : r .fits ≡ true → viewOf ws ≡ some (view (r .channel))
-  pub unfit : r .fits ≡ false → isSound (viewOf ws) ≡ false
 
 -- the numbers of an entry, and of a byte
 abbrev pub isEntry : ℕ → Bool

@@ -1,10 +1,10 @@
--- `words::load` tests the four numbers in front, and then the parts. Assumes nothing.
+-- `loading::load` tests the four numbers in front, and then the parts. Assumes nothing.
 use mathlib.Core.Path.{sym, _∙_}
 use mathlib.Core.Bool.{false≢true}
-use Rattle.words.proofs.Loading.{state-unfit, last-unfit, count-unfit, size-unfit, parts-unfit}
+use Rattle.loading.proofs.Loading.{state-unfit, last-unfit, count-unfit, size-unfit, parts-unfit}
 use borrow.Author.Needs.{needs}
-use Rattle.words.proofs.load.Statement.{statement}
-use Rattle.words.proofs.load.Tie as tie
+use Rattle.loading.proofs.load.Statement.{statement}
+use Rattle.loading.proofs.load.Tie as tie
 
 element-copy-out-state : tie.Need-element-copy-out-state
 element-copy-out-state c = search needs

@@ -1,4 +1,4 @@
--- `words::load_name` meets its contract. The invariant: i numbers fit, and i bytes are loaded.
+-- `loading::load_name` meets its contract. The invariant: i numbers fit, and i bytes are loaded.
 -- The measure is what is left of the count. Assumes nothing.
 use Prim.Native.Nat.{_-_, _+_, _≤_, _<_}
 use mathlib.Core.Path.{_≡_, refl, sym, _∙_}
@@ -7,11 +7,11 @@ use native.Mathlib.Omega.{arith}
 use lib.ListN.{length, take, getD, length-set}
 use borrow.Author.Tests.{lt-ltb, le-ltb}
 use Rattle.lists.specs.Lists.{all}
 use Rattle.words.specs.Words.{numbersAt, isByte}
-use Rattle.words.proofs.Loading.{all-stop, all-more, bytes-more}
+use Rattle.loading.proofs.Loading.{all-stop, all-more, bytes-more}
 use borrow.Author.Needs.{needs}
-use Rattle.words.proofs.load_name.Statement.{statement}
-use Rattle.words.proofs.load_name.Tie as tie
+use Rattle.loading.proofs.load_name.Statement.{statement}
+use Rattle.loading.proofs.load_name.Tie as tie
 
 abbrev Inv-loop : tie.InvT-loop
 Inv-loop ws size bytes₀ i₀ bytes i =

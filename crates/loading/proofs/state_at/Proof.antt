@@ -1,10 +1,10 @@
--- `words::state_at` meets its contract. Assumes nothing.
+-- `loading::state_at` meets its contract. Assumes nothing.
 use mathlib.Core.Path.{_≡_, ap}
 use Rattle.words.specs.Words.{stateAt}
-use Rattle.words.proofs.Loading.{paused-at}
+use Rattle.loading.proofs.Loading.{paused-at}
 use borrow.Author.Needs.{needs}
-use Rattle.words.proofs.state_at.Statement.{statement}
-use Rattle.words.proofs.state_at.Tie as tie
+use Rattle.loading.proofs.state_at.Statement.{statement}
+use Rattle.loading.proofs.state_at.Tie as tie
 
 returns : tie.Need-returns
 returns c = λ h. let e : c .before .args .n ≡ 0 = search needs in ap stateAt e

@@ -1,12 +1,12 @@
--- `words::last_at` meets its contract. Assumes nothing.
+-- `loading::last_at` meets its contract. Assumes nothing.
 use mathlib.Core.Path.{sym, ap}
 use Prim.Native.Nat.{suc, _-_}
 use native.Mathlib.Omega.{arith}
 use mathlib.Core.Path.{_≡_}
 use Rattle.words.specs.Words.{lastAt}
 use borrow.Author.Needs.{needs}
-use Rattle.words.proofs.last_at.Statement.{statement}
-use Rattle.words.proofs.last_at.Tie as tie
+use Rattle.loading.proofs.last_at.Statement.{statement}
+use Rattle.loading.proofs.last_at.Tie as tie
 
 returns : tie.Need-returns
 returns c = ap lastAt (sym (c .if1 .taken))

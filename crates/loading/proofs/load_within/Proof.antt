@@ -1,13 +1,13 @@
--- `words::load_within` puts the parts together. Assumes nothing.
+-- `loading::load_within` puts the parts together. Assumes nothing.
 use mathlib.Core.Path.{sym, _∙_}
 use mathlib.Core.Bool.{false≢true}
 use borrow.Author.Tests.{not-true, not-false}
 use Rattle.lists.specs.Lists.{all}
 use Rattle.words.specs.Words.{numbersAt, isEntry}
-use Rattle.words.proofs.Loading.{first-fails, second-fails, both-hold, loaded-view}
+use Rattle.loading.proofs.Loading.{first-fails, second-fails, both-hold, loaded-view}
 use borrow.Author.Needs.{needs}
-use Rattle.words.proofs.load_within.Statement.{statement}
-use Rattle.words.proofs.load_within.Tie as tie
+use Rattle.loading.proofs.load_within.Statement.{statement}
+use Rattle.loading.proofs.load_within.Tie as tie
 
 load-queue-requires : tie.Need-load-queue-requires
 load-queue-requires c κs = search needs

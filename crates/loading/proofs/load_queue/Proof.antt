@@ -1,4 +1,4 @@
--- `words::load_queue` meets its contract. The invariant: i numbers fit, and i entries are loaded.
+-- `loading::load_queue` meets its contract. The invariant: i numbers fit, and i entries are loaded.
 -- The measure is what is left of the count. Assumes nothing.
 use Prim.Native.Nat.{_-_, _+_, _≤_, _<_}
 use mathlib.Core.Path.{_≡_, refl, sym, _∙_}
@@ -8,11 +8,11 @@ use native.Mathlib.Omega.{arith}
 use lib.ListN.{length, take, getD, length-set}
 use borrow.Author.Tests.{lt-ltb, le-ltb}
 use Rattle.lists.specs.Lists.{all}
 use Rattle.words.specs.Words.{entryAt, numbersAt, isEntry}
-use Rattle.words.proofs.Loading.{all-stop, all-more, loaded-more}
+use Rattle.loading.proofs.Loading.{all-stop, all-more, loaded-more}
 use borrow.Author.Needs.{needs}
-use Rattle.words.proofs.load_queue.Statement.{statement}
-use Rattle.words.proofs.load_queue.Tie as tie
+use Rattle.loading.proofs.load_queue.Statement.{statement}
+use Rattle.loading.proofs.load_queue.Tie as tie
 
 abbrev Inv-loop : tie.InvT-loop
 Inv-loop ws count entries₀ i₀ entries i =
