@@ -171,7 +171,7 @@ static const struct bench {
     {"call-report-1", one_outstanding, reports, run_reports},
     {"call-report-16", sixteen_outstanding, reports, run_reports},
     {"call-held-16", sixteen_outstanding, asks_held, run_asks_held},
-    {"call-after-1", call_after_1, handles, run_handles},
+    {"call-after-0001", call_after_1, handles, run_handles},
     {"call-after-1000", call_after_1000, handles, run_handles},
 };
 

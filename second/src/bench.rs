@@ -133,7 +133,7 @@ fn call_of(case: &str) -> Option<(Kept, Option<Vec<u8>>)> {
         "call-stop-list-16" => (prepared(16)?, Some(request("STOP", 17, list))),
         "call-report-1" => (prepared(1)?, None),
         "call-report-16" => (prepared(16)?, None),
-        "call-after-1" => (prepared_after(1)?, Some(speak(2_000_000))),
+        "call-after-0001" => (prepared_after(1)?, Some(speak(2_000_000))),
         "call-after-1000" => (prepared_after(1000)?, Some(speak(2_000_000))),
         _ => return None,
     })
