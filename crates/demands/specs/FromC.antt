@@ -1,7 +1,6 @@
--- Demands 1 and 3 as C sees them, over the 64 numbers that the caller keeps: document 01, "Refusal numbers" and "How tight the promises are".
+-- Demands 1 to 3 as C sees them, over the 64 numbers that the caller keeps: document 01, "Refusal numbers" and "How tight the promises are".
 use Prim.Native.Nat.{ℕ, _≤_}
 use mathlib.Core.Path.{_≡_}
-use mathlib.Core.Bool.{true}
 use mathlib.Core.Option.{Option, none, some}
 use mathlib.Core.List.{List, [], _++_}
 use lib.ListN.{length, take, drop}
@@ -12,8 +11,8 @@ use Rattle.synth.specs.Channel.{View, held}
 use Rattle.synth.specs.Calls.{Lent, Call, Reply}
 use Rattle.synth.specs.Demand3.{accepts, closes}
 use Rattle.words.specs.Words.{numbersOf, viewOf}
-use Rattle.klarvesimo.specs.Face.{openFace, CallFace, callFace, HeldFace, heldFace}
-use Rattle.demands.specs.Demands.{Line, given, table, firstDue, outcome, exact, stated}
+use Rattle.klarvesimo.specs.Face.{openFace, CallFace, callFace, heldFace}
+use Rattle.demands.specs.Demands.{Line, table, firstDue, outcome, exact, stated}
 
 -- A line that is due: its number and count, and all that was lent as it was. None due: 0, the stated length as consumed, the exact answer at the
 -- front of the output, its rest as it was, and the numbers of the outcome's channel.

@@ -11,7 +11,7 @@ use Rattle.ledger.specs.Ledger.{Turn}
 use Rattle.synth.specs.Channel.{View}
 use Rattle.synth.specs.Calls.{Lent, Reply, call}
 use Rattle.words.specs.Words.{viewOf}
-use Rattle.klarvesimo.specs.Face.{CallFace, keeping, turnFace, callOn, callFace}
+use Rattle.klarvesimo.specs.Face.{keeping, turnFace, callOn, callFace}
 use Rattle.demands.specs.Demands.{Line, table, firstDue, outcome, stated}
 use Rattle.demands.specs.FromC.{lineFace, tableFace, Demand1OfTheFace}
 use Rattle.demands.proofs.Lines.{Gives, tabled}

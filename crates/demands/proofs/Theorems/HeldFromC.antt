@@ -1,7 +1,7 @@
 -- Whatever calls came on a channel that was opened, `klarvesimo_held` gives the ids that were accepted and not closed, in order of acceptance: the ledger
 -- balances, the channel stays sound, and a sound one holds at most 16. Assumes nothing.
 use Prim.Native.Nat.{ℕ, _≤_}
-use mathlib.Core.Path.{_≡_, refl, sym, ap, subst, _∙_}
+use mathlib.Core.Path.{_≡_, sym, ap, _∙_}
 use mathlib.Core.Bool.{true, false≢true}
 use mathlib.Core.Option.{Option, none, some}
 use mathlib.Core.List.{List, _++_}
@@ -10,7 +10,6 @@ use lib.Dec.{eqb}
 use lib.ListN.{length, drop, length-map}
 use borrow.Author.Tests.{le-ltb}
 use Rattle.synth.specs.Channel.{View, held, sound}
-use Rattle.synth.specs.Calls.{openChannel}
 use Rattle.synth.proofs.Theorems.Soundness.{opened-sound}
 use Rattle.calls.proofs.Leaving.{queue-short}
 use Rattle.words.specs.Words.{viewOf}

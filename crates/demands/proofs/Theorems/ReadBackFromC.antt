@@ -2,16 +2,16 @@
 -- inverts writing. Assumes nothing.
 use Prim.Native.Nat.{ℕ, _≤_}
 use mathlib.Core.Path.{_≡_, refl, sym, ap, subst, _∙_}
-use mathlib.Core.Bool.{Bool, true, false, not, false≢true}
+use mathlib.Core.Bool.{Bool, true, false}
 use mathlib.Core.Option.{Option, none, some}
 use mathlib.Core.List.{List, [], _∷_}
-use lib.Dec.{eqb, ltb}
+use lib.Dec.{ltb}
 use lib.ListN.{length, take, drop}
 use lib.Seq.{take-append-seam}
 use borrow.Author.Tests.{ltb-false}
 use Rattle.lists.specs.Lists.{All}
 use Rattle.lists.proofs.Membership.{elem-head}
-use Rattle.message.specs.Message.{Message, Reading, refused, message, request, response, event}
+use Rattle.message.specs.Message.{Reading, refused, message, request, response, event}
 use Rattle.message.specs.Reading.{heard, messagesIn}
 use Rattle.message.proofs.Theorems.IdsInRange.{id-heard}
 use Rattle.answer.specs.Writable.{Writable}
@@ -24,8 +24,7 @@ use Rattle.synth.specs.declared.Entry.{Entry}
 use Rattle.synth.proofs.Channels.{Facts, sound-facts, held-small}
 use Rattle.synth.proofs.Methods.{judge-good}
 use Rattle.synth.proofs.Names.{name-fits}
-use Rattle.words.specs.Words.{viewOf}
-use Rattle.klarvesimo.specs.Face.{CallFace, callFace}
+use Rattle.klarvesimo.specs.Face.{CallFace}
 use Rattle.demands.specs.Demands.{Line, table, firstDue, answering, ending, outcome, exact}
 use Rattle.demands.specs.FromC.{lineFace, tableFace, ReadBackOfTheFace}
 use Rattle.demands.proofs.Lines.{not-0}

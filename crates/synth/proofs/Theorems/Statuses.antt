@@ -1,7 +1,7 @@
 -- Every request is answered by one response, with one of the twelve statuses of document 01. Assumes nothing.
 use Prim.Native.Nat.{ℕ}
 use mathlib.Core.Path.{_≡_, refl}
-use mathlib.Core.Bool.{true, false, or-true}
+use mathlib.Core.Bool.{true, or-true}
 use mathlib.Core.List.{List, [], _∷_}
 use Rattle.lists.specs.Lists.{elem}
 use Rattle.lists.proofs.Tests.{choose}
