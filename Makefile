@@ -4,11 +4,14 @@
 # make bench    what a call costs: instructions, against the second program, and bytes of stack
 # make soak     the library beside the second program on scripts from fresh seeds, for SECONDS=60
 # make fuzz     the C face under libFuzzer, for SECONDS=60; make check-fuzz: it finds faults that are planted
+# make mutants  COUNT=300 small changes of the code by SEED=1, in all crates or CRATE=: does the prover notice them
 # make pictures the pictures of docs/, from the files that they are about
 # make install  the header, the library and its pkg-config file below PREFIX, in DESTDIR where that is given
 VERSION = 0.1.0
 PREFIX = /usr/local
 SECONDS = 60
+COUNT = 300
+SEED = 1
 SECOND = target/second/release/second
 PRODUCT = target/staticlib/libklarvesimo.a target/staticlib/libfirmware.a
 LIBRARY = $(PRODUCT) target/staticlib/libwriting.a
@@ -20,7 +23,7 @@ INPUTS = host/inputs.c host/input.c $(SCRIPTS)
 TELL = host/tell.c host/readable.c host/fates.c host/ledger.c $(SCRIPTS)
 BOARD = host/board.c host/connection.c host/engine.c host/number.c host/readable.c
 
-.PHONY: all build library host second bench soak fuzz check-fuzz pictures install test fmt clean
+.PHONY: all build library host second bench soak fuzz check-fuzz mutants pictures install test fmt clean
 
 all: library
 	@$(MAKE) --silent host
@@ -74,6 +77,9 @@ fuzz: build
 
 check-fuzz: build
 	@tools/check-fuzz target/staticlib target/host $(SECOND)
+
+mutants:
+	@tools/mutants --count '$(COUNT)' --seed '$(SEED)' $(CRATE:%=--crate '%')
 
 pictures:
 	@mkdir -p target

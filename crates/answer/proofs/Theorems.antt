@@ -3,3 +3,4 @@ pub mod ReadBack
 pub mod ListsReadBack
 pub mod AnswersWritable
 pub mod LongestAnswer
+pub mod WrittenTable

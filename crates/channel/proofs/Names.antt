@@ -1,34 +1,17 @@
--- Runs at the front of a list, and the length of a well-formed name. Assumes nothing.
-use Prim.Native.Nat.{ℕ, _+_, _-_, _≤_, _<_}
+-- The length of a well-formed name. Assumes nothing.
+use Prim.Native.Nat.{ℕ, _≤_, _<_}
 use mathlib.Core.Path.{_≡_, ap}
-use mathlib.Core.Bool.{Bool, true, false, _&&_, _||_}
+use mathlib.Core.Bool.{true, false, _&&_, _||_}
 use mathlib.Core.List.{List}
-use native.Mathlib.Numerals.{add-one}
 use native.Mathlib.Omega.{arith}
 use lib.Dec.{leb}
-use lib.ListN.{length, take, drop, getD, drop-of-length-le, length-drop}
-use lib.Seq.{drop-cons, take-all}
+use lib.ListN.{length, drop, length-drop}
 use borrow.Author.Tests.{leb-true}
 use Rattle.lists.specs.Lists.{run, same}
 use Rattle.lists.proofs.Tests.{refuted, both}
 use Rattle.lists.proofs.Scans.{same-so}
 use Rattle.octets.specs.Octets.{bytes, isLetter, isDigit}
 use Rattle.synth.specs.Channel.{wellNamed}
-
--- i passed: what the run has left
-module _ (test : ℕ → Bool) (l : List ℕ) (i : ℕ) where
-  pub run-end : length l ≤ i → i + run test (drop i l) ≡ i
-  run-end h = rw (drop-of-length-le l h) (omega arith)
-
-  pub run-stop : i < length l → test (getD l i 0) ≡ false → i + run test (drop i l) ≡ i
-  run-stop h e = rw (drop-cons l i 0 h, run, e) (omega arith)
-
-  pub run-step : i < length l → test (getD l i 0) ≡ true → i + run test (drop i l) ≡ i + 1 + run test (drop (i + 1) l)
-  run-step h e = rw (add-one i, drop-cons l i 0 h, run, e) (omega arith)
-
--- a part that goes to the end
-pub part-to-end : (l : List ℕ) (k : ℕ) → take (length l - k) (drop k l) ≡ drop k l
-part-to-end l k = take-all (length l - k) (drop k l) (omega (arith, length-drop k l))
 
 pub name-fits : (name : List ℕ) → wellNamed name ≡ true → length name ≤ 44
 unfolding wellNamed

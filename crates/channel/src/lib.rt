@@ -1,13 +1,12 @@
 // A channel by value, its soundness and its opening: document 01, "Refusal numbers".
 ghost use mathlib.Core.Path.{_≡_};
-ghost use mathlib.Core.Bool.{_||_, _&&_};
+ghost use mathlib.Core.Bool.{_&&_};
 ghost use mathlib.Core.List.{_++_};
 ghost use Prim.Native.Nat.{_-_, _≤_};
 ghost use lib.Dec.{leb};
 ghost use lib.ListN.{length, take, replicate};
-ghost use Rattle.lists.specs.Lists.{run, same, ascends};
-ghost use Rattle.octets.specs.Octets.{within, isLetter, isDigit};
-ghost use Rattle.synth.specs.Channel.{sound, wellNamed, withQueue, withLast, isIdle, firstAbove, ids as idsOf};
+ghost use Rattle.lists.specs.Lists.{same, ascends};
+ghost use Rattle.synth.specs.Channel.{sound, withQueue, withLast, isIdle, firstAbove, ids as idsOf};
 ghost use Rattle.synth.specs.Calls.{openChannel};
 ghost use Rattle.synth.specs.declared.LastId.the-variants.{Seen};
 ghost use Rattle.channel.specs.Channel.{view, opened, kept};
@@ -26,55 +25,6 @@ pub struct Channel {
 pub struct Opening {
     pub number: u32,
     pub channel: Channel,
-}
-
-fn within(from: u8, to: u8, b: u8) -> bool
-    ensures { λ r. ⌜ r ≡ within from to b ⌝ }
-{
-    if b < from {
-        return false;
-    }
-    b <= to
-}
-
-fn letter_or_digit(b: u8) -> bool
-    ensures { λ r. ⌜ r ≡ (isLetter b || isDigit b) ⌝ }
-{
-    if within(b'A', b'Z', b) {
-        return true;
-    }
-    if within(b'a', b'z', b) {
-        return true;
-    }
-    within(b'0', b'9', b)
-}
-
-// How many letters or digits stand at the front.
-fn word(name: &[u8]) -> usize
-    ensures { λ r. ⌜ (r ≡ run (λ b. isLetter b || isDigit b) (now (name .entry))) × (r ≤ length (now (name .entry))) ⌝ }
-{
-    let mut i: usize = 0;
-    while i < name.len() {
-        if !letter_or_digit(name[i]) {
-            return i;
-        }
-        i += 1;
-    }
-    i
-}
-
-// 1 to 32 letters or digits, then `@speechsynth`.
-pub fn well_named(name: &[u8]) -> bool
-    ensures { λ r. ⌜ r ≡ wellNamed (now (name .entry)) ⌝ }
-{
-    let k = word(name);
-    if k < 1 {
-        return false;
-    }
-    if 32 < k {
-        return false;
-    }
-    octets::equal(&name[k..], b"@speechsynth")
 }
 
 pub fn is_idle(s: synth::State) -> bool
@@ -125,7 +75,7 @@ pub fn is_sound(c: Channel) -> bool
         return false;
     }
     let name = c.name;
-    if !well_named(&name[..size]) {
+    if !channelnames::well_named(&name[..size]) {
         return false;
     }
     let state = c.state;
@@ -177,7 +127,7 @@ pub fn open_channel(name: &[u8]) -> Opening
     ensures { λ r. ⌜ opened r ≡ openChannel (now (name .entry)) ⌝ }
     ensures { λ r. ⌜ r .channel ≡ kept (openChannel (now (name .entry)) .channel .name) ⌝ }
 {
-    if well_named(name) {
+    if channelnames::well_named(name) {
         Opening {
             number: 0,
             channel: fresh(name),

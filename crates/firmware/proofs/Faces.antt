@@ -2,55 +2,33 @@
 use mathlib.Core.Path.{_≡_, refl, sym, ap, _∙_}
 use native.Mathlib.Omega.{arith}
 use mathlib.Core.List.{List, [], _∷_, _++_}
-use Prim.Native.Nat.{ℕ, zero, suc, _+_, _≤_, _<_}
-use lib.ListN.{length, take, drop, set}
+use Prim.Native.Nat.{ℕ, zero, suc}
+use lib.ListN.{length, take, set}
 use lib.Seq.{length-take-le}
-use borrow.Author.Tests.{lt-ltb, le-ltb}
 use Rattle.framing.specs.Framing.{framing}
 use Rattle.framing.specs.declared.Framing.{Framing}
 use Rattle.framing.specs.declared.Framing.the-variants.{Frame}
-use Rattle.message.specs.declared.Span.{Span}
-use Rattle.message.specs.declared.RequestState.{RequestState}
-use Rattle.startline.specs.StartLine.{startOf, startedOf}
-use Rattle.startline.specs.declared.Start as S
-use Rattle.message.specs.StartLines.{Started, started, startLine}
 use Rattle.framing.proofs.Frames.{Fits, frame-fits}
 use Rattle.message.specs.Message.{Reading, refused}
+use Rattle.message.specs.StartLines.{Started, started, startLine}
 use Rattle.message.specs.Reading.{fieldsFrom, readFrom, readFramed, reading}
+use Rattle.message.specs.declared.Span.{Span}
+use Rattle.startline.specs.StartLine.{startOf, startedOf}
+use Rattle.startline.specs.declared.Start as S
 use Rattle.startline.specs.declared.StartLine as L
-use Rattle.firmware.specs.Face.{Face, handed, framed, frameFace, stateNumber, startNumbers, fieldsNumbers, ReadFace, consuming, readAs, readFace, called}
-use Rattle.firmware.specs.Steps.{Numbers, numbersOf, frameAs}
-use Rattle.firmware.specs.declared.StartNumbers.{StartNumbers}
-
-pub too-short : (answer out : List ℕ) → length out < length answer → handed answer out ≡ record { number = 7; out = out }
-too-short answer out h = rw (lt-ltb (length out) (length answer) h, handed)
-
-pub fits : (answer out : List ℕ) → length answer ≤ length out → handed answer out ≡ record { number = 0; out = answer ++ drop (length answer) out }
-fits answer out h = rw (le-ltb (length out) (length answer) h, handed)
+use Rattle.messagenumbers.specs.Layout.{Face, handed, startNumbers, fieldsNumbers}
+use Rattle.messagenumbers.specs.Steps.{Numbers, numbersOf}
+use Rattle.messagenumbers.specs.declared.StartNumbers.{StartNumbers}
+use Rattle.firmware.specs.Face.{framed, frameFace, ReadFace, consuming, readAs, readFace, called}
+use Rattle.firmware.specs.Steps.{frameAs}
 
 pub frame-face : (s out : List ℕ) (f x : Framing) → f ≡ framing s → f ≡ x → framed x out ≡ frameFace s out
 unfolding frameFace
 frame-face s out f x p q = ap (λ (y : Framing). framed y out) (sym q ∙ p)
 
-module _ (s out : List ℕ) (f : Framing) (a b k n : ℕ) (p : f ≡ framing s) (q : f ≡ Frame a b k n) where
-  pub frame-short : length out < 4 → record { number = 7; out = out } ≡ frameFace s out
-  frame-short h = sym (too-short (a ∷ b ∷ k ∷ n ∷ []) out h) ∙ frame-face s out f (Frame a b k n) p q
-
-  pub frame-whole : 4 ≤ length out → record { number = 0; out = take 0 out ++ (a ∷ b ∷ k ∷ n ∷ []) ++ drop (0 + 4) out } ≡ frameFace s out
-  frame-whole h = sym (fits (a ∷ b ∷ k ∷ n ∷ []) out h) ∙ frame-face s out f (Frame a b k n) p q
-
-module _ (start : S.Start) where
-  pub of-request : (name : Span) (id : ℕ) → start ≡ S.Start.Request name id
-      → Numbers start (record { kind = 1; name = name .start; len = name .len; id = id; status = 0; state = 0 })
-  of-request name id e = record { same = λ a b. ap (λ (x : S.Start). startNumbers a b (startOf x)) (sym e) }
-
-  pub of-response : (id status : ℕ) (state : RequestState) (n : ℕ) → start ≡ S.Start.Response id status state → n ≡ stateNumber state
-      → Numbers start (record { kind = 2; name = 0; len = 0; id = id; status = status; state = n })
-  of-response id status state n e h = record { same = λ a b. rw h (ap (λ (x : S.Start). startNumbers a b (startOf x)) (sym e)) }
-
-  pub of-event : (name : Span) (id : ℕ) (state : RequestState) (n : ℕ) → start ≡ S.Start.Event name id state → n ≡ stateNumber state
-      → Numbers start (record { kind = 3; name = name .start; len = name .len; id = id; status = 0; state = n })
-  of-event name id state n e h = record { same = λ a b. rw h (ap (λ (x : S.Start). startNumbers a b (startOf x)) (sym e)) }
+pub frame-handed : (s out : List ℕ) (f : Framing) (a b k n : ℕ) → f ≡ framing s → f ≡ Frame a b k n
+    → (r : Face) → r ≡ handed (a ∷ b ∷ k ∷ n ∷ []) out → r ≡ frameFace s out
+frame-handed s out f a b k n p q r e = e ∙ frame-face s out f (Frame a b k n) p q
 
 -- the count consumed goes with number 0 alone
 pub consumed-all : (n r : ℕ) (o : List ℕ) (x : Face) → record { number = r; out = o } ≡ x → r ≡ 0

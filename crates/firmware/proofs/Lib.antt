@@ -1,3 +1,1 @@
-pub mod Four
 pub mod Faces
-pub mod Handing

@@ -7,9 +7,10 @@ use native.Mathlib.Nat.{add-assoc, add-zero, zero-add}
 use lib.ListN.{drop}
 use lib.Seq.{drop-drop}
 use Rattle.readers.specs.Readers.{Read, short, wrong, got, after, next, Reader, _>>=_, _>>_, done, text, number}
-use Rattle.readers.specs.Steps.{placed, scanned, oneTo19}
+use Rattle.readers.specs.Steps.{placed}
+use Rattle.digits.specs.Steps.{scanned, oneTo19}
 use Rattle.readers.specs.declared.Place.{Place}
-use Rattle.readers.specs.declared.Scan.{Scan}
+use Rattle.digits.specs.declared.Scan.{Scan}
 use Rattle.framing.specs.Framing.{measured, framed}
 use Rattle.framing.specs.Steps.{textAfter, numberAfter, valueOf}
 use Rattle.framing.specs.declared.Opening.{Opening}

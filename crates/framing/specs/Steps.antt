@@ -3,9 +3,10 @@ use Prim.Native.Nat.{ℕ}
 use mathlib.Core.List.{List}
 use lib.ListN.{drop}
 use Rattle.readers.specs.Readers.{text, number}
-use Rattle.readers.specs.Steps.{placed, scanned, oneTo19}
+use Rattle.readers.specs.Steps.{placed}
+use Rattle.digits.specs.Steps.{scanned, oneTo19}
 use Rattle.readers.specs.declared.Place.{Place}
-use Rattle.readers.specs.declared.Scan.{Scan}
+use Rattle.digits.specs.declared.Scan.{Scan}
 
 -- a text behind a number
 abbrev pub textAfter : List ℕ → Scan → List ℕ → Place

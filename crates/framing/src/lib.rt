@@ -22,34 +22,34 @@ pub enum Framing {
 }
 
 // A text behind a number: a step that does nothing where the one before it found nothing, so that the steps need no branches between them.
-fn text_after(s: &[u8], n: readers::Scan, t: &[u8]) -> readers::Place
+fn text_after(s: &[u8], n: digits::Scan, t: &[u8]) -> readers::Place
     ensures { λ r. ⌜ r ≡ textAfter (now (s .entry)) n (now (t .entry)) ⌝ }
 {
     match n {
-        readers::Scan::Short => readers::Place::Short,
-        readers::Scan::Wrong => readers::Place::Wrong,
-        readers::Scan::Got(_, at) => readers::text(s, at, t),
+        digits::Scan::Short => readers::Place::Short,
+        digits::Scan::Wrong => readers::Place::Wrong,
+        digits::Scan::Got(_, at) => readers::text(s, at, t),
     }
 }
 
 // A number behind a text, likewise.
-fn number_after(s: &[u8], p: readers::Place, max: usize) -> readers::Scan
+fn number_after(s: &[u8], p: readers::Place, max: usize) -> digits::Scan
     ensures { λ r. ⌜ r ≡ numberAfter (now (s .entry)) p max ⌝ }
 {
     match p {
-        readers::Place::Short => readers::Scan::Short,
-        readers::Place::Wrong => readers::Scan::Wrong,
-        readers::Place::At(at) => readers::number(s, at, max),
+        readers::Place::Short => digits::Scan::Short,
+        readers::Place::Wrong => digits::Scan::Wrong,
+        readers::Place::At(at) => digits::number(s, at, max),
     }
 }
 
-fn value(n: readers::Scan) -> u64
+fn value(n: digits::Scan) -> u64
     ensures { λ r. ⌜ r ≡ valueOf n ⌝ }
 {
     match n {
-        readers::Scan::Short => 0,
-        readers::Scan::Wrong => 0,
-        readers::Scan::Got(v, _) => v,
+        digits::Scan::Short => 0,
+        digits::Scan::Wrong => 0,
+        digits::Scan::Got(v, _) => v,
     }
 }
 

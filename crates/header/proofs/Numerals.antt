@@ -16,8 +16,8 @@ use Rattle.lists.proofs.Tests.{both, refuted}
 use Rattle.lists.proofs.Scans.{run-all}
 use Rattle.octets.specs.Octets.{isDigit}
 use Rattle.readers.specs.Words.{isNumber, numberOf}
-use Rattle.readers.specs.Steps.{digitsAt}
-use Rattle.readers.specs.declared.Digits.{Digits}
+use Rattle.digits.specs.Steps.{digitsAt}
+use Rattle.digits.specs.declared.Digits.{Digits}
 use Rattle.readers.proofs.Positions.{run-yes}
 use Rattle.readers.proofs.Words.{number-fits}
 use Rattle.message.specs.Reading.{agrees}

@@ -30,7 +30,7 @@ enum Stated {
 fn number(v: &[u8]) -> Stated
     ensures { λ r. ⌜ r ≡ statedOf (now (v .entry)) ⌝ }
 {
-    let d = readers::digits_at(v, 0, 19);
+    let d = digits::digits_at(v, 0, 19);
     let count = d.count;
     if count == 0 {
         return Stated::None;

@@ -1,3 +1,4 @@
+pub mod LineTable
 pub mod PartsInOrder
 pub mod Judgement2
 pub mod IdsInRange

@@ -4,9 +4,9 @@ use mathlib.Core.Path.{_≡_}
 use mathlib.Core.Bool.{true}
 use mathlib.Core.List.{List, [], _∷_}
 use Prim.Native.Nat.{ℕ, suc, _+_, _-_, _*_, _^_, _<_, _≤_}
-use native.Mathlib.Nat.{add-zero, zero-add, add-suc, suc-add, pow-suc, pow-le-pow-right, le-of-suc-le-suc}
+use native.Mathlib.Nat.{add-zero, zero-add, add-suc, suc-add, pow-suc}
 use native.Mathlib.Omega.{arith}
-use lib.Dec.{leb, lit<, lit≤}
+use lib.Dec.{leb, lit<}
 use lib.ListN.{length}
 use borrow.Author.Tests.{leb-true}
 use Rattle.lists.specs.Lists.{all}
@@ -20,10 +20,6 @@ digit-bounds x e = let (l, m) = both (leb 48 x) (leb x 57) e in (leb-true 48 x l
 -- a digit more
 pub grown : (v k x : ℕ) → v < 10 ^ k → isDigit x ≡ true → v * 10 + (x - 48) < 10 ^ suc k
 grown v k x h e = rw pow-suc (omega (arith, digit-bounds x e))
-
--- a digit more may come where at most 18 are there
-pub below-18 : (v k : ℕ) → v < 10 ^ k → k < 19 → v < 10 ^ 18
-below-18 v k h l = omega (arith, pow-le-pow-right {n = 10} (lit≤ tt) {i = k} {j = 18} (le-of-suc-le-suc l))
 
 pub decimal-below : (v k : ℕ) (w : List ℕ) → v < 10 ^ k → all isDigit w ≡ true → decimal v w < 10 ^ (k + length w)
 decimal-below v k [] h e = rw add-zero h

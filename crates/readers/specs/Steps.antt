@@ -1,36 +1,10 @@
--- What the readers find, in the types of the code: a position stands for a count.
-use Prim.Native.Nat.{ℕ, _+_, min, max}
-use mathlib.Core.List.{List}
-use lib.ListN.{take}
-use Rattle.lists.specs.Lists.{run}
-use Rattle.octets.specs.Octets.{isDigit}
+-- What reading a text finds, in the types of the code: a position stands for a count.
+use Prim.Native.Nat.{ℕ, _+_}
 use Rattle.readers.specs.Readers.{Read, short, wrong, got}
-use Rattle.readers.specs.Words.{numberOf}
 use Rattle.readers.specs.declared.Place.{Place}
-use Rattle.readers.specs.declared.Scan.{Scan}
-use Rattle.readers.specs.declared.Digits.{Digits}
 
 -- a text, read from `at` on
 abbrev pub placed : ℕ → Read (Unit {0}) → Place
 placed at short = Place.Short
 placed at wrong = Place.Wrong
 placed at (got u n) = Place.At (at + n)
-
--- a number, read from `at` on
-abbrev pub scanned : ℕ → Read ℕ → Scan
-scanned at short = Scan.Short
-scanned at wrong = Scan.Wrong
-scanned at (got v n) = Scan.Got v (at + n)
-
--- nineteen digits fit a u64
-abbrev pub atMost19 : ℕ → ℕ
-atMost19 n = min n 19
-
-abbrev pub oneTo19 : ℕ → ℕ
-oneTo19 n = min (max n 1) 19
-
--- the digits at the front, at most `most` of them
-unfoldable pub digitsAt : ℕ → List ℕ → Digits
-digitsAt most l =
-    let n : ℕ = min (run isDigit l) (atMost19 most) in
-    record { value = numberOf (take n l); count = n }

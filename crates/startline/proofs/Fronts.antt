@@ -12,7 +12,7 @@ use Rattle.lists.specs.Lists.{all, run}
 use Rattle.lists.proofs.Tests.{both}
 use Rattle.octets.specs.Octets.{isDigit}
 use Rattle.readers.specs.Words.{numberOf}
-use Rattle.readers.specs.Steps.{digitsAt}
+use Rattle.digits.specs.Steps.{digitsAt}
 use Rattle.startwords.proofs.Positions.{run-in}
 
 -- w, at most n bytes that pass, and then r; w ends where n do, or at a byte that does not pass, or with the list

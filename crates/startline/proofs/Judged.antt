@@ -15,8 +15,8 @@ use Rattle.lists.proofs.Tests.{both, refuted}
 use Rattle.lists.proofs.Scans.{run-all, run-length}
 use Rattle.octets.specs.Octets.{isDigit, isCapital}
 use Rattle.readers.specs.Words.{numberOf, isNumber, isRequestId, starts, isCrlf}
-use Rattle.readers.specs.Steps.{digitsAt}
-use Rattle.readers.specs.declared.Digits.{Digits}
+use Rattle.digits.specs.Steps.{digitsAt}
+use Rattle.digits.specs.declared.Digits.{Digits}
 use Rattle.readers.proofs.Words.{number-fits}
 use Rattle.message.specs.Message.{response}
 use Rattle.message.specs.StartLines.{startsCapital, isMethodName, isStatus, Started}

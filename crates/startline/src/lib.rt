@@ -41,7 +41,7 @@ fn response(f: &[u8], at: usize) -> StartLine
 fn status(f: &[u8], at: usize, id: u64) -> StartLine
     ensures { λ r. ⌜ startedOf r ≡ told (fromStatus id) at (said (drop at (now (f .entry)))) ⌝ }
 {
-    let d = readers::digits_at(f, at, 3);
+    let d = digits::digits_at(f, at, 3);
     let count = d.count;
     if count != 3 {
         return StartLine::Malformed;

@@ -3,7 +3,7 @@
 use mathlib.Core.Path.{_≡_}
 use Prim.Native.Nat.{ℕ, _+_, _<_, _≤_}
 use borrow.Author.Tests.{eq-eqb, ne-eqb, le-leb, lt-leb}
-use Rattle.readers.specs.declared.Digits.{Digits}
+use Rattle.digits.specs.declared.Digits.{Digits}
 use Rattle.startwords.specs.Runs.{idOf}
 use Rattle.startwords.specs.declared.Id.{Id}
 

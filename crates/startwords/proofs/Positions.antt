@@ -11,8 +11,8 @@ use Rattle.lists.specs.Lists.{run}
 use Rattle.lists.proofs.Tests.{both}
 use Rattle.octets.specs.Octets.{isDigit}
 use Rattle.readers.proofs.Positions.{here}
-use Rattle.readers.specs.Steps.{digitsAt}
-use Rattle.readers.specs.declared.Digits.{Digits}
+use Rattle.digits.specs.Steps.{digitsAt}
+use Rattle.digits.specs.declared.Digits.{Digits}
 use Rattle.startwords.specs.Runs.{begins}
 
 module _ (s t : List ℕ) (i k : ℕ) where

@@ -4,8 +4,8 @@ use mathlib.Core.Bool.{Bool, true, false, _&&_, _||_}
 use mathlib.Core.List.{List, [], _∷_}
 use lib.Dec.{eqb, leb}
 use Rattle.octets.specs.Octets.{bytes, isCapital}
-use Rattle.readers.specs.Steps.{digitsAt}
-use Rattle.readers.specs.declared.Digits.{Digits}
+use Rattle.digits.specs.Steps.{digitsAt}
+use Rattle.digits.specs.declared.Digits.{Digits}
 use Rattle.message.specs.declared.RequestState.the-variants.{Pending, InProgress, Complete}
 use Rattle.startwords.specs.declared.Id.{Id}
 use Rattle.startwords.specs.declared.Last.{Last}

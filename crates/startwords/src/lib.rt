@@ -77,7 +77,7 @@ pub fn name_end(f: &[u8], at: usize) -> usize
 pub fn request_id(f: &[u8], at: usize) -> Id
     ensures { λ r. ⌜ r ≡ idAt at (drop at (now (f .entry))) ⌝ }
 {
-    let d = readers::digits_at(f, at, 10);
+    let d = digits::digits_at(f, at, 10);
     let value = d.value;
     let count = d.count;
     if count == 0 {

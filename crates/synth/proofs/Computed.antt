@@ -16,9 +16,9 @@ use Rattle.answer.specs.IdList.{isIdList, idsOf, behindCommas, idListText}
 use Rattle.answer.specs.Answers.{response, speakComplete}
 use Rattle.ledger.specs.Ledger.{Seen, after, trace}
 use Rattle.synth.specs.Channel.{View, wellNamed, sound}
-use Rattle.synth.specs.Request.{methodOf, acting, ignoresAny}
+use Rattle.synth.specs.Request.{Request, methodOf, acting, ignoresAny}
 use Rattle.synth.specs.Judgement.{_then_, unless, version, wellFormed, addressed, ours, above, legal, amongSix, valid, content, room, success, early, late}
-use Rattle.synth.specs.States.{act, judge}
+use Rattle.synth.specs.States.{Outcome, act, judge}
 use Rattle.synth.specs.Calls.{Call, Reply, input, cause, deliver, call, openChannel}
 
 -- what a reader hears of bytes, and of a text
@@ -45,6 +45,12 @@ unfolding heard reading framing opening startLine fieldLine fieldsFrom knownOf v
     digits digitsWithin threeDigits selfLength isIdList idsOf behindCommas idListText response speakComplete wellNamed sound methodOf acting
     ignoresAny _then_ unless version wellFormed addressed ours above legal amongSix valid content room success early late act judge deliver call
 replies v calls = map (λ (x : Seen Call Reply). x .reply) (trace call v calls)
+
+-- what a request comes to
+unfoldable pub judges : View → Request → Outcome
+unfolding knownOf valueOf digits digitsWithin isIdList idsOf behindCommas idListText response acting ignoresAny _then_ unless version wellFormed addressed ours
+    above legal amongSix valid content room success early late act judge
+judges v r = judge v r
 
 -- the channel after the calls
 unfoldable pub leaves : View → List Call → View

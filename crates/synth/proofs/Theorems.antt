@@ -1,4 +1,6 @@
 pub mod Table
+pub mod Judgements
+pub mod Transitions
 pub mod Readings
 pub mod Statuses
 pub mod RfcExamples

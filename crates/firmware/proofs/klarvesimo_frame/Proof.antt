@@ -1,15 +1,12 @@
 -- `firmware::klarvesimo_frame` meets its contract. Assumes nothing.
 use borrow.Author.Needs.{needs}
-use mathlib.Core.Path.{_∙_, ap}
-use mathlib.Core.List.{List}
-use Prim.Native.Nat.{ℕ}
-use Rattle.firmware.proofs.Faces.{frame-face, frame-short, frame-whole}
 use Rattle.framing.specs.declared.Framing.the-variants.{More, NoMessage, TooLong, TooShort}
+use Rattle.firmware.proofs.Faces.{frame-face, frame-handed}
 use Rattle.firmware.proofs.klarvesimo_frame.Statement.{statement}
 use Rattle.firmware.proofs.klarvesimo_frame.Tie as tie
 use Rattle.firmware.proofs.klarvesimo_frame.Reads as reads
 use Rattle.firmware.proofs.klarvesimo_frame.Lts as lts
-use Rattle.firmware.proofs.put_four.Reads as put-four-reads
+use Rattle.messagenumbers.proofs.hand_over_frame.Reads as hand-over-frame-reads
 use Rattle.framing.proofs.frame.Reads as frame-reads
 
 frame-requires : tie.Need-frame-requires
@@ -30,42 +27,37 @@ enum-told-4 c = search needs
 enum-known-f : tie.Need-enum-known-f
 enum-known-f c = search needs
 
+hand-over-frame-requires : tie.Need-hand-over-frame-requires
+hand-over-frame-requires c κs = search needs
+
 returns : tie.Need-returns
 returns c =
-    let a = c .before .before .before .before .before .before .before .args in
-    frame-short (a .s .now) (a .out .now) _ _ _ _ _ (c .before .before .before .before .frame .ensures) (c .before .before .f .given .1) (search needs)
-
-put-four-requires : tie.Need-put-four-requires
-put-four-requires c κs = search needs
+    let a = c .before .before .before .before .before .args in
+    frame-face (a .s .now) (a .out .now) _ More (c .before .before .frame .ensures) (c .enum-told .given .1)
 
 returns-2 : tie.Need-returns-2
 returns-2 c =
     let a = c .before .before .before .before .before .args in
-    frame-face (a .s .now) (a .out .now) _ More (c .before .before .frame .ensures) (c .enum-told .given .1)
+    frame-face (a .s .now) (a .out .now) _ NoMessage (c .before .before .frame .ensures) (c .enum-told2 .given .1)
 
 returns-3 : tie.Need-returns-3
 returns-3 c =
     let a = c .before .before .before .before .before .args in
-    frame-face (a .s .now) (a .out .now) _ NoMessage (c .before .before .frame .ensures) (c .enum-told2 .given .1)
+    frame-face (a .s .now) (a .out .now) _ TooLong (c .before .before .frame .ensures) (c .enum-told3 .given .1)
 
 returns-4 : tie.Need-returns-4
 returns-4 c =
-    let a = c .before .before .before .before .before .args in
-    frame-face (a .s .now) (a .out .now) _ TooLong (c .before .before .frame .ensures) (c .enum-told3 .given .1)
-
-returns-5 : tie.Need-returns-5
-returns-5 c =
     let a = c .before .before .before .before .before .args in
     frame-face (a .s .now) (a .out .now) _ TooShort (c .before .before .frame .ensures) (c .enum-told4 .given .1)
 
 same-length : tie.Need-same-length
 same-length c = search needs
 
-returns-6 : tie.Need-returns-6
-returns-6 c =
-    let a = c .before .before .before .before .before .before .before .before .before .before .before .args in
-    ap (λ (o : List ℕ). record { number = 0; out = o }) (c .before .before .put-four .ensures)
-    ∙ frame-whole (a .s .now) (a .out .now) _ _ _ _ _ (c .before .before .before .before .before .before .before .before .frame .ensures) (c .before .before .before .before .before .before .f .given .1) (search needs)
+returns-5 : tie.Need-returns-5
+returns-5 c =
+    let a = c .before .before .before .before .before .before .before .before .before .before .args in
+    frame-handed (a .s .now) (a .out .now) _ _ _ _ _ (c .before .before .before .before .before .before .before .frame .ensures) (c .before .before .before .before .before .f .given .1) _
+    (c .before .before .hand-over-frame .ensures)
 
 pub klarvesimo-frame-spec : {M : Type 1} → statement M
 klarvesimo-frame-spec =
@@ -77,11 +69,10 @@ klarvesimo-frame-spec =
     enum-told-3
     enum-told-4
     enum-known-f
+    hand-over-frame-requires
     returns
-    put-four-requires
     returns-2
     returns-3
     returns-4
-    returns-5
     same-length
-    returns-6)
+    returns-5)

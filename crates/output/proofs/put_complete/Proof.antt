@@ -3,7 +3,7 @@ use mathlib.Core.Path.{refl}
 use native.Mathlib.Omega.{arith}
 use Rattle.writers.proofs.Put.{_▸_, kept}
 use Rattle.answer.specs.Causes.{causeNumber}
-use Rattle.sizes.proofs.Pieces.{complete-room, complete-pieces}
+use Rattle.output.proofs.Pieces.{complete-room, complete-pieces}
 use Rattle.output.proofs.put_complete.Statement.{statement}
 use Rattle.output.proofs.put_complete.Tie as tie
 

@@ -2,7 +2,7 @@
 use mathlib.Core.Path.{refl}
 use native.Mathlib.Omega.{arith}
 use Rattle.writers.proofs.Put.{_▸_, kept}
-use Rattle.sizes.proofs.Pieces.{response-room, response-pieces}
+use Rattle.output.proofs.Pieces.{response-room, response-pieces}
 use Rattle.output.proofs.put_response.Statement.{statement}
 use Rattle.output.proofs.put_response.Tie as tie
 

@@ -1,7 +1,7 @@
 -- `sizes::complete_size` meets its contract. Assumes nothing.
 use native.Mathlib.Omega.{arith}
 use Rattle.answer.specs.Causes.{causeNumber}
-use Rattle.sizes.proofs.Pieces.{complete-measured}
+use Rattle.sizes.proofs.Messages.{complete-measured}
 use Rattle.sizes.proofs.complete_size.Statement.{statement}
 use Rattle.sizes.proofs.complete_size.Tie as tie
 

@@ -4,7 +4,7 @@ use Prim.Native.Nat.{_+_}
 use lib.ListN.{length}
 use Rattle.answer.specs.Written.{fieldsText}
 use Rattle.answer.specs.Answers.{activeRequestIdList}
-use Rattle.sizes.proofs.Pieces.{response-measured, saturated}
+use Rattle.sizes.proofs.Messages.{response-measured, saturated}
 use Rattle.sizes.proofs.response_size.Statement.{statement}
 use Rattle.sizes.proofs.response_size.Tie as tie
 
