@@ -2,6 +2,8 @@ pub mod Table
 pub mod Judgements
 pub mod Transitions
 pub mod Readings
+pub mod HandledCalls
+pub mod OneResponse
 pub mod Statuses
 pub mod RfcExamples
 pub mod Soundness

@@ -1,0 +1,165 @@
+-- A client message that returned 0: the channel is sound, what is heard at the front of the input is a request, and the call gives what judging
+-- it gives. In an output of 305 bytes or more its frame alone gives the same, and so does whatever is heard alike. An engine report that
+-- returned 0: the channel is sound and speaks, the cause is at most 7, and the call gives what ending the active request gives; in an output of
+-- 305 bytes or more the same cause gives the same. Assumes nothing.
+use Prim.Native.Nat.{ℕ, _≤_}
+use mathlib.Core.Path.{_≡_, refl, sym, ap, ap₂, _∙_}
+use mathlib.Core.Bool.{true}
+use mathlib.Core.List.{List, [], _∷_}
+use native.Mathlib.Omega.{arith}
+use lib.Dec.{ltb}
+use lib.ListN.{length, take}
+use borrow.Author.Tests.{ltb-false, le-ltb}
+use Rattle.lists.proofs.Tests.{choose}
+use Rattle.message.specs.Message.{request, response, event, Fields, Head, Reading, refused, message}
+use Rattle.message.specs.Reading.{heard}
+use Rattle.message.proofs.Refusals.{refused-number}
+use Rattle.message.proofs.Theorems.ReadAlone.{heard-alone}
+use Rattle.answer.specs.Written.{writtenAll}
+use Rattle.ledger.specs.Ledger.{Turn}
+use Rattle.synth.specs.Channel.{View, sound}
+use Rattle.synth.specs.Request.{Request, requestOf}
+use Rattle.synth.specs.States.{Outcome, judge, completed}
+use Rattle.synth.specs.Calls.{input, cause, Call, Reply, refuse, deliver, answer, reported, onSound, call}
+use Rattle.synth.specs.declared.State.{State}
+use Rattle.synth.specs.declared.State.the-variants.{Idle, Speaking, Paused}
+use Rattle.synth.specs.declared.Entry.{Entry}
+use Rattle.synth.proofs.Heard.{Framed, heard-framed}
+use Rattle.synth.proofs.Theorems.Room.{never-7}
+
+-- a client message or an engine report, with an output of so many bytes
+abbrev pub lending : List ℕ → ℕ → Call
+lending s room = record { lent = input s; room = room }
+
+abbrev pub reporting : ℕ → ℕ → Call
+reporting n room = record { lent = cause n; room = room }
+
+-- it returns 0, consumes so many bytes, writes what is said, end to end, and leaves the outcome's channel
+pub record Delivers (consumed : ℕ) (o : Outcome) (t : Turn View Reply) : Type 0 where
+  pub number : t .reply .number ≡ 0
+  pub consumes : t .reply .consumed ≡ consumed
+  pub writes : t .reply .written ≡ writtenAll (o .says)
+  pub leaves : t .next ≡ o .next
+
+-- the request at the front of s, judged
+pub record HandledRequest (v : View) (s : List ℕ) (t : Turn View Reply) : Type 0 where
+  pub on-sound : sound v ≡ true
+  pub head : Head
+  pub name : List ℕ
+  pub id : ℕ
+  pub fields : Fields (List ℕ)
+  pub hears : heard s ≡ message head (request name id) fields
+  pub framed : Framed s head
+  pub delivers : Delivers (head .stated) (judge v (requestOf head name id fields)) t
+
+abbrev pub requestHeard : {v : View} {s : List ℕ} {t : Turn View Reply} → HandledRequest v s t → Request
+requestHeard h = requestOf (h .head) (h .name) (h .id) (h .fields)
+
+-- the active request, ended
+pub record HandledReport (v : View) (n : ℕ) (t : Turn View Reply) : Type 0 where
+  pub on-sound : sound v ≡ true
+  pub speaks : v .state ≡ Speaking
+  pub active : Entry
+  pub waiting : List Entry
+  pub queued : v .queue ≡ active ∷ waiting
+  pub cause-known : n ≤ 7
+  pub delivers : Delivers 0 (completed active waiting v n) t
+
+same-turn : {consumed : ℕ} {o : Outcome} {t u : Turn View Reply} → Delivers consumed o t → Delivers consumed o u → t ≡ u
+same-turn g h = λ i. record {
+  reply = record {
+    number = (g .number ∙ sym (h .number)) i;
+    consumed = (g .consumes ∙ sym (h .consumes)) i;
+    written = (g .writes ∙ sym (h .writes)) i;
+  };
+  next = (g .leaves ∙ sym (h .leaves)) i;
+}
+
+-- what is delivered and has what refusal 7 has not
+module _ (v : View) (consumed room : ℕ) (o : Outcome) where
+  delivered : (P : Turn View Reply → Type 0) → (P (refuse v 7 0) → ⊥) → P (deliver v consumed room o)
+      → Delivers consumed o (deliver v consumed room o)
+  unfolding deliver
+  delivered P none =
+      choose (λ (t : Turn View Reply). P t → Delivers consumed o t) (ltb room (length (writtenAll (o .says)))) (λ _ p. absurd (none p))
+      (λ _ _. record { number = refl; consumes = refl; writes = refl; leaves = refl })
+
+  delivered-0 : deliver v consumed room o .reply .number ≡ 0 → Delivers consumed o (deliver v consumed room o)
+  delivered-0 = delivered (λ (t : Turn View Reply). t .reply .number ≡ 0) (λ z. omega arith)
+
+  delivered-not-7 : (deliver v consumed room o .reply .number ≡ 7 → ⊥) → Delivers consumed o (deliver v consumed room o)
+  delivered-not-7 = delivered (λ (t : Turn View Reply). t .reply .number ≡ 7 → ⊥) (λ h. h refl)
+
+module _ (v : View) (s : List ℕ) (room : ℕ) where
+  answered : sound v ≡ true → (m : Reading (List ℕ)) → heard s ≡ m → answer v room m .reply .number ≡ 0 → HandledRequest v s (answer v room m)
+  answered b (refused n k) e z = absurd (omega (arith, refused-number s n k e))
+  answered b (message h (request name id) fs) e z = record {
+    on-sound = b;
+    head = h;
+    name = name;
+    id = id;
+    fields = fs;
+    hears = e;
+    framed = heard-framed s h (request name id) fs e;
+    delivers = delivered-0 v (h .stated) room (judge v (requestOf h name id fs)) z;
+  }
+  answered b (message h (response id status state) fs) e z = absurd (omega arith)
+  answered b (message h (event name id state) fs) e z = absurd (omega arith)
+
+  pub request-handled : call v (lending s room) .reply .number ≡ 0 → HandledRequest v s (call v (lending s room))
+  unfolding call
+  request-handled =
+      choose (λ (t : Turn View Reply). t .reply .number ≡ 0 → HandledRequest v s t) (sound v) (λ b. answered b (heard s) refl)
+      (λ _ z. absurd (omega arith))
+
+module _ (v : View) (n room : ℕ) where
+  ended : sound v ≡ true → n ≤ 7 → (x : State) (q : List Entry) → v .state ≡ x → v .queue ≡ q → reported x q v room n .reply .number ≡ 0
+      → HandledReport v n (reported x q v room n)
+  ended b h Idle q x e z = absurd (omega arith)
+  ended b h Paused q x e z = absurd (omega arith)
+  ended b h Speaking [] x e z = absurd (omega arith)
+  ended b h Speaking (a ∷ q) x e z = record {
+    on-sound = b;
+    speaks = x;
+    active = a;
+    waiting = q;
+    queued = e;
+    cause-known = h;
+    delivers = delivered-0 v 0 room (completed a q v n) z;
+  }
+
+  pub report-handled : call v (reporting n room) .reply .number ≡ 0 → HandledReport v n (call v (reporting n room))
+  unfolding call
+  report-handled =
+      choose Told (sound v)
+      (λ b. choose Told (ltb 7 n) (λ _ z. absurd (omega arith)) (λ l. ended b (ltb-false 7 n l) (v .state) (v .queue) refl refl))
+      (λ _ z. absurd (omega arith))
+    where
+      Told : Turn View Reply → Type 0
+      Told t = t .reply .number ≡ 0 → HandledReport v n t
+
+-- 305 bytes are room for whatever is delivered
+with-room : (v : View) (c : Call) (consumed : ℕ) (o : Outcome) (t : Turn View Reply) → 305 ≤ c .room → call v c ≡ deliver v consumed (c .room) o
+    → Delivers consumed o t → call v c ≡ t
+with-room v c consumed o t roomy e g =
+    e ∙ same-turn (delivered-not-7 v consumed (c .room) o (λ z. never-7 v c roomy (ap (λ (t : Turn View Reply). t .reply .number) e ∙ z))) g
+
+module _ {v : View} {s : List ℕ} {t : Turn View Reply} (h : HandledRequest v s t) where
+  pub heard-alike : (u : List ℕ) (room : ℕ) → 305 ≤ room → heard u ≡ heard s → call v (lending u room) ≡ t
+  unfolding call
+  heard-alike u room roomy e =
+      with-room v (lending u room) (h .head .stated) (judge v (requestHeard h)) t roomy
+      (rw (h .on-sound, call) (ap (answer v room) (e ∙ h .hears))) (h .delivers)
+
+  pub frame-heard : heard (take (t .reply .consumed) s) ≡ heard s
+  frame-heard = ap (λ n. heard (take n s)) (h .delivers .consumes) ∙ heard-alone s _ _ _ _ (h .framed .frame)
+
+  pub frame-suffices : (room : ℕ) → 305 ≤ room → call v (lending (take (t .reply .consumed) s) room) ≡ t
+  frame-suffices room roomy = heard-alike (take (t .reply .consumed) s) room roomy frame-heard
+
+module _ {v : View} {n : ℕ} {t : Turn View Reply} (h : HandledReport v n t) where
+  pub cause-suffices : (room : ℕ) → 305 ≤ room → call v (reporting n room) ≡ t
+  unfolding call
+  cause-suffices room roomy =
+      with-room v (reporting n room) 0 (completed (h .active) (h .waiting) v n) t roomy
+      (rw (h .on-sound, call) (rw (le-ltb 7 n (h .cause-known), onSound) (ap₂ (λ x q. reported x q v room n) (h .speaks) (h .queued)))) (h .delivers)
