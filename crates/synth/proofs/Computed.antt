@@ -1,24 +1,29 @@
 -- Calls in turn, as they compute: to unfold `replies` or `leaves` is to unfold every definition that a call rests on. Assumes nothing.
 use Prim.Native.Nat.{ℕ}
 use Prim.Native.String.{String}
+use mathlib.Core.Bool.{true, false}
 use mathlib.Core.List.{List, map}
 use Rattle.octets.specs.Octets.{bytes}
 use Rattle.writers.specs.Decimal.{digits, digitsWithin, threeDigits}
 use Rattle.writers.specs.SelfLength.{selfLength}
 use Rattle.framing.specs.Framing.{opening, framing}
-use Rattle.message.specs.Message.{Reading}
+use Rattle.message.specs.Message.{Start, request, response, event, Field, Reading}
 use Rattle.message.specs.StartLines.{startLine}
 use Rattle.message.specs.Fields.{fieldLine}
 use Rattle.message.specs.Known.{knownOf, valueOf}
 use Rattle.message.specs.Reading.{fieldsFrom, reading, heard}
 use Rattle.answer.specs.Written.{startText, fieldText, fieldsText, afterLength, written, writtenAll}
 use Rattle.answer.specs.IdList.{isIdList, idsOf, behindCommas, idListText}
-use Rattle.answer.specs.Answers.{response, speakComplete}
+use Rattle.answer.specs.Answers as A
+use Rattle.answer.specs.Answers.{speakComplete}
 use Rattle.ledger.specs.Ledger.{Seen, after, trace}
 use Rattle.synth.specs.Channel.{View, wellNamed, sound}
 use Rattle.synth.specs.Request.{Request, methodOf, acting, ignoresAny}
 use Rattle.synth.specs.Judgement.{_then_, unless, version, wellFormed, addressed, ours, above, legal, amongSix, valid, content, room, success, early, late}
 use Rattle.synth.specs.States.{Outcome, act, judge}
+use Rattle.synth.specs.declared.State.{State}
+use Rattle.synth.specs.declared.Entry.{Entry}
+use Rattle.synth.specs.declared.LastId.{LastId}
 use Rattle.synth.specs.Calls.{Call, Reply, input, cause, deliver, call, openChannel}
 
 -- what a reader hears of bytes, and of a text
@@ -34,6 +39,27 @@ unfoldable pub opened : String → View
 unfolding openChannel wellNamed
 opened name = openChannel (bytes name) .channel
 
+-- a channel of that name, in that state, with these requests outstanding: the one place that spells a channel for a table
+abbrev pub channel : String → State → List Entry → LastId → View
+channel name state queue last = record { name = bytes name; state = state; queue = queue; last = last }
+
+-- an outstanding request that barge-in kills, and one that it spares
+abbrev pub killed : ℕ → Entry
+killed id = record { id = id; kill = true }
+
+abbrev pub spared : ℕ → Entry
+spared id = record { id = id; kill = false }
+
+-- a field with that name and value
+abbrev pub field : String → String → Field (List ℕ)
+field name value = record { name = bytes name; value = bytes value }
+
+-- the status of a response; 0 where it is none
+abbrev pub statusOf : Start (List ℕ) → ℕ
+statusOf (request name id) = 0
+statusOf (response id status state) = status
+statusOf (event name id state) = 0
+
 abbrev pub lends : String → Call
 lends text = record { lent = input (bytes text); room = 305 }
 
@@ -42,19 +68,19 @@ reports n = record { lent = cause n; room = 305 }
 
 unfoldable pub replies : View → List Call → List Reply
 unfolding heard reading framing opening startLine fieldLine fieldsFrom knownOf valueOf startText fieldText fieldsText afterLength written writtenAll
-    digits digitsWithin threeDigits selfLength isIdList idsOf behindCommas idListText response speakComplete wellNamed sound methodOf acting
+    digits digitsWithin threeDigits selfLength isIdList idsOf behindCommas idListText A.response speakComplete wellNamed sound methodOf acting
     ignoresAny _then_ unless version wellFormed addressed ours above legal amongSix valid content room success early late act judge deliver call
 replies v calls = map (λ (x : Seen Call Reply). x .reply) (trace call v calls)
 
 -- what a request comes to
 unfoldable pub judges : View → Request → Outcome
-unfolding knownOf valueOf digits digitsWithin isIdList idsOf behindCommas idListText response acting ignoresAny _then_ unless version wellFormed addressed ours
+unfolding knownOf valueOf digits digitsWithin isIdList idsOf behindCommas idListText A.response acting ignoresAny _then_ unless version wellFormed addressed ours
     above legal amongSix valid content room success early late act judge
 judges v r = judge v r
 
 -- the channel after the calls
 unfoldable pub leaves : View → List Call → View
 unfolding heard reading framing opening startLine fieldLine fieldsFrom knownOf valueOf startText fieldText fieldsText afterLength written writtenAll
-    digits digitsWithin threeDigits selfLength isIdList idsOf behindCommas idListText response speakComplete wellNamed sound methodOf acting
+    digits digitsWithin threeDigits selfLength isIdList idsOf behindCommas idListText A.response speakComplete wellNamed sound methodOf acting
     ignoresAny _then_ unless version wellFormed addressed ours above legal amongSix valid content room success early late act judge deliver call
 leaves v calls = after call v calls

@@ -3,10 +3,9 @@
 use Prim.Native.Nat.{ℕ}
 use Prim.Native.String.{String}
 use mathlib.Core.Path.{_≡_, refl}
-use mathlib.Core.Bool.{true}
 use mathlib.Core.List.{List, [], _∷_, map}
 use Rattle.octets.specs.Octets.{bytes}
-use Rattle.message.specs.Message.{Start, request, response, event, Field, bad, good, Message}
+use Rattle.message.specs.Message.{Field, bad, good, Message}
 use Rattle.synth.specs.Channel.{View, firstAbove}
 use Rattle.synth.specs.Request.{Request}
 use Rattle.synth.specs.States.{Outcome}
@@ -15,16 +14,11 @@ use Rattle.synth.specs.declared.State.the-variants.{Idle, Speaking}
 use Rattle.synth.specs.declared.Method.{Method}
 use Rattle.synth.specs.declared.LastId.{LastId}
 use Rattle.synth.specs.declared.LastId.the-variants.{NoneSeen, Seen}
-use Rattle.synth.proofs.Computed.{judges}
+use Rattle.synth.proofs.Computed.{channel, killed, field, statusOf, judges}
 
 -- a channel that holds these ids
 abbrev pub holding : State → List ℕ → LastId → View
-holding state ids last = record {
-  name = bytes "7f3a@speechsynth";
-  state = state;
-  queue = map (λ (id : ℕ). record { id = id; kill = true }) ids;
-  last = last;
-}
+holding state ids last = channel "7f3a@speechsynth" state (map killed ids) last
 
 pub fresh : View
 fresh = holding Idle [] NoneSeen
@@ -34,9 +28,6 @@ idle = holding Idle [] (Seen 8)
 
 pub full : View
 full = holding Speaking (1 ∷ 2 ∷ 3 ∷ 4 ∷ 5 ∷ 6 ∷ 7 ∷ 8 ∷ 9 ∷ 10 ∷ 11 ∷ 12 ∷ 13 ∷ 14 ∷ 15 ∷ 16 ∷ []) (Seen 16)
-
-abbrev pub field : String → String → Field (List ℕ)
-field name value = record { name = bytes name; value = bytes value }
 
 abbrev pub toUs : Field (List ℕ)
 toUs = field "Channel-Identifier" "7f3a@speechsynth"
@@ -71,11 +62,6 @@ speaks id fs = asks Method.Speak id fs "Hi"
 pub record Row : Type 0 where
   pub status : ℕ
   pub above : ℕ
-
-abbrev pub statusOf : Start (List ℕ) → ℕ
-statusOf (request name id) = 0
-statusOf (response id status state) = status
-statusOf (event name id state) = 0
 
 abbrev pub statusIn : List Message → ℕ
 statusIn [] = 0

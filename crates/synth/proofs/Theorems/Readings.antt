@@ -3,25 +3,19 @@
 use Prim.Native.Nat.{ℕ, zero, suc}
 use Prim.Native.String.{String}
 use mathlib.Core.Path.{_≡_, refl}
-use mathlib.Core.Bool.{true}
 use mathlib.Core.List.{List, [], _∷_, map}
 use Rattle.octets.specs.Octets.{bytes}
-use Rattle.message.specs.Message.{request, response, event, Reading, refused, message}
+use Rattle.message.specs.Message.{Reading, refused, message}
 use Rattle.synth.specs.Channel.{View}
 use Rattle.synth.specs.Calls.{Reply}
 use Rattle.synth.specs.declared.State.{State}
 use Rattle.synth.specs.declared.State.the-variants.{Speaking, Paused}
 use Rattle.synth.specs.declared.LastId.the-variants.{Seen}
-use Rattle.synth.proofs.Computed.{opened, lends, replies, leaves, hearsBytes}
+use Rattle.synth.proofs.Computed.{opened, channel, killed, statusOf, lends, replies, leaves, hearsBytes}
 
 -- a channel that holds these ids, the last of them the last seen
 abbrev pub holding : State → List ℕ → ℕ → View
-holding state ids last = record {
-  name = bytes "7f3a@speechsynth";
-  state = state;
-  queue = map (λ (id : ℕ). record { id = id; kill = true }) ids;
-  last = Seen last;
-}
+holding state ids last = channel "7f3a@speechsynth" state (map killed ids) (Seen last)
 
 pub fresh : View
 fresh = opened "7f3a@speechsynth"
@@ -35,15 +29,13 @@ paused = holding Paused (1 ∷ 2 ∷ 3 ∷ []) 3
 pub full : View
 full = holding Speaking (1 ∷ 2 ∷ 3 ∷ 4 ∷ 5 ∷ 6 ∷ 7 ∷ 8 ∷ 9 ∷ 10 ∷ 11 ∷ 12 ∷ 13 ∷ 14 ∷ 15 ∷ 16 ∷ []) 16
 
-abbrev pub statusOf : Reading (List ℕ) → ℕ
-statusOf (refused n k) = 0
-statusOf (message h (request name id) fs) = 0
-statusOf (message h (response id status state) fs) = status
-statusOf (message h (event name id state) fs) = 0
+abbrev pub statusIn : Reading (List ℕ) → ℕ
+statusIn (refused n k) = 0
+statusIn (message h start fs) = statusOf start
 
 abbrev pub numberOrStatus : List Reply → ℕ
 numberOrStatus [] = 0
-numberOrStatus (r ∷ rs) = elim (r .number) [ zero ↦ statusOf (hearsBytes (r .written)) | suc n ↦ suc n ]
+numberOrStatus (r ∷ rs) = elim (r .number) [ zero ↦ statusIn (hearsBytes (r .written)) | suc n ↦ suc n ]
 
 pub at : View → String → ℕ
 at v text = numberOrStatus (replies v (lends text ∷ []))

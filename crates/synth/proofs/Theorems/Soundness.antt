@@ -16,6 +16,7 @@ use Rattle.synth.specs.declared.State.{State}
 use Rattle.synth.specs.declared.State.the-variants.{Idle, Speaking, Paused}
 use Rattle.synth.specs.declared.LastId.{LastId}
 use Rattle.synth.specs.declared.LastId.the-variants.{NoneSeen, Seen}
+use Rattle.synth.proofs.Computed.{channel, killed}
 use Rattle.synth.proofs.Channels.{facts-sound}
 use Rattle.synth.proofs.Turns.{call-law}
 
@@ -35,13 +36,8 @@ call-sound v c s = ⊎-elim {C = sound (call v c .next) ≡ true} (λ h. rw (h .
 pub refused-keeps : (v : View) (c : Call) → (call v c .reply .number ≡ 0 → ⊥) → (call v c .reply .written ≡ []) × (call v c .next ≡ v)
 refused-keeps v c n = ⊎-elim {C = (call v c .reply .written ≡ []) × (call v c .next ≡ v)} (λ h. (h .silent, h .kept)) (λ h. absurd (n (h .number))) (call-law v c .does)
 
--- a channel with these ids outstanding
-pub channel : String → State → List ℕ → LastId → View
-channel name state ids last =
-    record { name = bytes name; state = state; queue = map (λ (id : ℕ). record { id = id; kill = true }) ids; last = last }
-
 pub named : State → List ℕ → LastId → Bool
-named state ids last = sound (channel "7f3a@speechsynth" state ids last)
+named state ids last = sound (channel "7f3a@speechsynth" state (map killed ids) last)
 
 pub sixteen : List ℕ
 sixteen = 1 ∷ 2 ∷ 3 ∷ 4 ∷ 5 ∷ 6 ∷ 7 ∷ 8 ∷ 9 ∷ 10 ∷ 11 ∷ 12 ∷ 13 ∷ 14 ∷ 15 ∷ 16 ∷ []
@@ -63,7 +59,7 @@ pub soundness :
     ∷ sound (channel "" Idle [] NoneSeen)
     ∷ []
     ≡ true ∷ true ∷ true ∷ true ∷ true ∷ false ∷ false ∷ false ∷ false ∷ false ∷ false ∷ false ∷ false ∷ false ∷ []
-unfolding channel named sixteen sound wellNamed
+unfolding named sixteen sound wellNamed
 soundness = refl
 
 pub opens : String → Opened
@@ -89,5 +85,5 @@ pub openings :
     ∷ gives 10 ""
     ∷ gives 10 ""
     ∷ []
-unfolding opens gives channel openChannel wellNamed
+unfolding opens gives openChannel wellNamed
 openings = refl

@@ -2,7 +2,6 @@
 use Prim.Native.Nat.{ℕ}
 use Prim.Native.String.{String}
 use mathlib.Core.Path.{_≡_, refl}
-use mathlib.Core.Bool.{true}
 use mathlib.Core.List.{List, [], _∷_, _++_, map}
 use lib.ListN.{length}
 use Rattle.octets.specs.Octets.{bytes}
@@ -10,7 +9,7 @@ use Rattle.synth.specs.Channel.{View}
 use Rattle.synth.specs.Calls.{Reply}
 use Rattle.synth.specs.declared.State.the-variants.{Speaking}
 use Rattle.synth.specs.declared.LastId.the-variants.{Seen}
-use Rattle.synth.proofs.Computed.{opened, lends, reports, replies}
+use Rattle.synth.proofs.Computed.{opened, channel, killed, lends, reports, replies}
 
 -- a line of the table: the number returned, the counts consumed and written, the text written
 pub record Row : Type 0 where
@@ -31,12 +30,7 @@ fresh = opened "7f3a@speechsynth"
 
 -- the same channel, holding 1, 2, 3 and 4
 pub holding : View
-holding = record {
-  name = bytes "7f3a@speechsynth";
-  state = Speaking;
-  queue = map (λ (id : ℕ). record { id = id; kill = true }) (1 ∷ 2 ∷ 3 ∷ 4 ∷ []);
-  last = Seen 4;
-}
+holding = channel "7f3a@speechsynth" Speaking (map killed (1 ∷ 2 ∷ 3 ∷ 4 ∷ [])) (Seen 4)
 
 -- one call on an opened channel
 pub alone : String → List Row

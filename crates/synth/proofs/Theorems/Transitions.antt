@@ -3,7 +3,6 @@
 use Prim.Native.Nat.{ℕ}
 use Prim.Native.String.{String}
 use mathlib.Core.Path.{_≡_, refl}
-use mathlib.Core.Bool.{true, false}
 use mathlib.Core.Option.{Option, none, some}
 use mathlib.Core.List.{List, [], _∷_, map}
 use Rattle.octets.specs.Octets.{bytes}
@@ -21,17 +20,10 @@ use Rattle.synth.specs.declared.State.the-variants.{Idle, Speaking, Paus
 use Rattle.synth.specs.declared.Method.{Method}
 use Rattle.synth.specs.declared.Entry.{Entry}
 use Rattle.synth.specs.declared.LastId.the-variants.{Seen}
-use Rattle.synth.proofs.Computed.{judges, replies, leaves, reports}
-
--- an outstanding request that barge-in kills, and one that it spares
-abbrev pub killed : ℕ → Entry
-killed id = record { id = id; kill = true }
-
-abbrev pub spared : ℕ → Entry
-spared id = record { id = id; kill = false }
+use Rattle.synth.proofs.Computed.{channel, killed, spared, field, statusOf, judges, replies, leaves, reports}
 
 abbrev pub holding : State → List Entry → View
-holding state queue = record { name = bytes "7f3a@speechsynth"; state = state; queue = queue; last = Seen 8 }
+holding state queue = channel "7f3a@speechsynth" state queue (Seen 8)
 
 pub idle : View
 idle = holding Idle []
@@ -41,9 +33,6 @@ speaking = holding Speaking (killed 7 ∷ spared 8 ∷ [])
 
 pub paused : View
 paused = holding Paused (killed 7 ∷ spared 8 ∷ [])
-
-abbrev pub field : String → String → Field (List ℕ)
-field name value = record { name = bytes name; value = bytes value }
 
 abbrev pub asks : Method → List (Field (List ℕ)) → String → Request
 asks m fs body =
@@ -77,11 +66,6 @@ pub record Row : Type 0 where
   pub listed : Option (List ℕ)
   pub state : State
   pub queue : List Entry
-
-abbrev pub statusOf : Start (List ℕ) → ℕ
-statusOf (request name id) = 0
-statusOf (response id status state) = status
-statusOf (event name id state) = 0
 
 abbrev pub progressOf : Start (List ℕ) → Option RequestState
 progressOf (request name id) = none
