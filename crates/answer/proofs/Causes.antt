@@ -1,42 +1,91 @@
--- The causes by their numbers. Assumes nothing.
-use Prim.Native.Nat.{ℕ, zero, suc, _≤_, _<_}
-use mathlib.Core.Path.{_≡_, refl}
+-- The names of the causes, one behind the other, and where each stands. Assumes nothing.
+use Prim.Native.Nat.{ℕ, zero, suc, _+_, _-_, _≤_, _<_}
+use native.Mathlib.Nat.{le-of-suc-le-suc, not-suc-le-zero}
+use native.Mathlib.Numerals.{add-one}
 use native.Mathlib.Omega.{arith}
-use Rattle.answer.specs.Causes.{causeNumber, causeAt}
-use Rattle.answer.specs.declared.Cause.{Cause}
-use Rattle.answer.specs.declared.Reported.{Reported}
+use mathlib.Core.Path.{_≡_, refl, sym, ap, ap₂, _∙_}
+use mathlib.Core.List.{List, [], _∷_}
+use lib.ListN.{length, getD, take, length-append}
+use lib.Seq.{take-append-seam, drop-append-add}
+use Rattle.octets.specs.Octets.{from}
+use Rattle.octets.proofs.Bits.{entry}
+use Rattle.writers.proofs.Digits.{three-length}
+use Rattle.message.specs.Message.{part}
+use Rattle.message.specs.declared.Span.{Span}
+use Rattle.answer.specs.Answers.{causeNames, completionCause}
+use Rattle.answer.specs.Causes.{joined, placed}
 
--- a number that is none of 0 to 7 has no cause
-pub no-cause : (n : ℕ) → (n ≡ 0 → ⊥) → (n ≡ 1 → ⊥) → (n ≡ 2 → ⊥) → (n ≡ 3 → ⊥) → (n ≡ 4 → ⊥) → (n ≡ 5 → ⊥) → (n ≡ 6 → ⊥) → (n ≡ 7 → ⊥) → Reported.NoCause ≡ causeAt n
-no-cause zero h0 h1 h2 h3 h4 h5 h6 h7 = absurd (h0 refl)
-no-cause (suc zero) h0 h1 h2 h3 h4 h5 h6 h7 = absurd (h1 refl)
-no-cause (suc (suc zero)) h0 h1 h2 h3 h4 h5 h6 h7 = absurd (h2 refl)
-no-cause (suc (suc (suc zero))) h0 h1 h2 h3 h4 h5 h6 h7 = absurd (h3 refl)
-no-cause (suc (suc (suc (suc zero)))) h0 h1 h2 h3 h4 h5 h6 h7 = absurd (h4 refl)
-no-cause (suc (suc (suc (suc (suc zero))))) h0 h1 h2 h3 h4 h5 h6 h7 = absurd (h5 refl)
-no-cause (suc (suc (suc (suc (suc (suc zero)))))) h0 h1 h2 h3 h4 h5 h6 h7 = absurd (h6 refl)
-no-cause (suc (suc (suc (suc (suc (suc (suc zero))))))) h0 h1 h2 h3 h4 h5 h6 h7 = absurd (h7 refl)
-no-cause (suc (suc (suc (suc (suc (suc (suc (suc n)))))))) h0 h1 h2 h3 h4 h5 h6 h7 = refl
+-- ---- texts one behind the other
 
--- the cause with the number n, which is at most 7
-pub cause-number : (n : ℕ) (c : Cause) → causeAt n ≡ Reported.Cause c → (causeNumber c ≡ n) × (n ≤ 7)
-cause-number zero c e = let f : c ≡ Cause.Normal = cc in (rw f, omega arith)
-cause-number (suc zero) c e = let f : c ≡ Cause.BargeIn = cc in (rw f, omega arith)
-cause-number (suc (suc zero)) c e = let f : c ≡ Cause.ParseFailure = cc in (rw f, omega arith)
-cause-number (suc (suc (suc zero))) c e = let f : c ≡ Cause.UriFailure = cc in (rw f, omega arith)
-cause-number (suc (suc (suc (suc zero)))) c e = let f : c ≡ Cause.Error = cc in (rw f, omega arith)
-cause-number (suc (suc (suc (suc (suc zero))))) c e = let f : c ≡ Cause.LanguageUnsupported = cc in (rw f, omega arith)
-cause-number (suc (suc (suc (suc (suc (suc zero)))))) c e = let f : c ≡ Cause.LexiconLoadFailure = cc in (rw f, omega arith)
-cause-number (suc (suc (suc (suc (suc (suc (suc zero))))))) c e = let f : c ≡ Cause.Cancelled = cc in (rw f, omega arith)
-cause-number (suc (suc (suc (suc (suc (suc (suc (suc n)))))))) c e = let d : _≡_ {A = ℕ} 0 1 = cc in absurd (omega arith)
+-- a text ends where the next one begins
+placed-next : (ts : List (List ℕ)) (n : ℕ) → placed ts n .start + placed ts n .len ≡ placed ts (suc n) .start
+unfolding placed
+placed-next [] n = refl
+placed-next (t ∷ []) zero = omega arith
+placed-next (t ∷ u ∷ ts) zero = omega arith
+placed-next (t ∷ ts) (suc n) = omega (arith, placed-next ts n)
 
-pub above-causes : (n : ℕ) → causeAt n ≡ Reported.NoCause → 7 < n
-above-causes zero e = let d : _≡_ {A = ℕ} 0 1 = cc in absurd (omega arith)
-above-causes (suc zero) e = let d : _≡_ {A = ℕ} 0 1 = cc in absurd (omega arith)
-above-causes (suc (suc zero)) e = let d : _≡_ {A = ℕ} 0 1 = cc in absurd (omega arith)
-above-causes (suc (suc (suc zero))) e = let d : _≡_ {A = ℕ} 0 1 = cc in absurd (omega arith)
-above-causes (suc (suc (suc (suc zero)))) e = let d : _≡_ {A = ℕ} 0 1 = cc in absurd (omega arith)
-above-causes (suc (suc (suc (suc (suc zero))))) e = let d : _≡_ {A = ℕ} 0 1 = cc in absurd (omega arith)
-above-causes (suc (suc (suc (suc (suc (suc zero)))))) e = let d : _≡_ {A = ℕ} 0 1 = cc in absurd (omega arith)
-above-causes (suc (suc (suc (suc (suc (suc (suc zero))))))) e = let d : _≡_ {A = ℕ} 0 1 = cc in absurd (omega arith)
-above-causes (suc (suc (suc (suc (suc (suc (suc (suc n)))))))) e = omega arith
+pub placed-behind : (ts : List (List ℕ)) (n : ℕ) → length ts ≤ n
+    → placed ts n ≡ record { start = length (joined ts); len = 0 }
+unfolding placed
+placed-behind [] n h = refl
+placed-behind (t ∷ ts) zero h = absurd (not-suc-le-zero h)
+placed-behind (t ∷ ts) (suc n) h =
+    ap (λ (p : Span). record { start = length t + p .start; len = p .len }) (placed-behind ts n (le-of-suc-le-suc h))
+    ∙ ap {B = Span} (λ (k : ℕ). record { start = k; len = 0 }) (sym (length-append t (joined ts)))
+
+placed-within : (ts : List (List ℕ)) (n : ℕ) → placed ts n .start + placed ts n .len ≤ length (joined ts)
+unfolding placed
+placed-within [] n = omega arith
+placed-within (t ∷ ts) zero = omega (arith, length-append t (joined ts))
+placed-within (t ∷ ts) (suc n) = omega (arith, length-append t (joined ts), placed-within ts n)
+
+placed-length : (ts : List (List ℕ)) (n : ℕ) → placed ts n .len ≡ length (getD ts n [])
+unfolding placed
+placed-length [] n = refl
+placed-length (t ∷ ts) zero = refl
+placed-length (t ∷ ts) (suc n) = placed-length ts n
+
+-- what stands there is the text
+placed-text : (ts : List (List ℕ)) (n : ℕ) → part (joined ts) (placed ts n) ≡ getD ts n []
+unfolding placed
+placed-text [] n = refl
+placed-text (t ∷ ts) zero = take-append-seam t (joined ts)
+placed-text (t ∷ ts) (suc n) =
+    ap (take (placed ts n .len)) (drop-append-add t (joined ts) (placed ts n .start)) ∙ placed-text ts n
+
+-- ---- their starts as a table
+
+-- where each begins, and where the last one ends
+abbrev pub starts : List (List ℕ) → List ℕ
+starts ts = from (λ k. placed ts k .start) 0 (suc (length ts))
+
+module _ (ts : List (List ℕ)) (n : ℕ) (h : n < length ts) where
+  start-at : getD (starts ts) n 0 ≡ placed ts n .start
+  start-at = entry (λ k. placed ts k .start) 0 (suc (length ts)) n (omega arith)
+
+  next-at : getD (starts ts) (n + 1) 0 ≡ placed ts n .start + placed ts n .len
+  next-at = rw (add-one, placed-next ts n) (entry (λ k. placed ts k .start) 0 (suc (length ts)) (suc n) (omega arith))
+
+  pub rising : (getD (starts ts) n 0 ≤ getD (starts ts) (n + 1) 0) × (getD (starts ts) (n + 1) 0 ≤ length (joined ts))
+  rising = (omega (arith, start-at, next-at), omega (arith, next-at, placed-within ts n))
+
+  pub between : record { start = getD (starts ts) n 0; len = getD (starts ts) (n + 1) 0 - getD (starts ts) n 0 }
+      ≡ placed ts n
+  between =
+      ap₂ {C = Span} (λ (a k : ℕ). record { start = a; len = k }) start-at (omega (arith, start-at, next-at))
+
+-- ---- the name of a cause, at the place that the code has
+
+module _ (cause : ℕ) {p : Span} (e : p ≡ placed causeNames cause) where
+  pub name-within : p .start + p .len ≤ 92
+  name-within = rw e (placed-within causeNames cause)
+
+  pub name-length : p .len ≡ length (getD causeNames cause [])
+  name-length = rw e (placed-length causeNames cause)
+
+  pub name-text : part (joined causeNames) p ≡ getD causeNames cause []
+  name-text = rw e (placed-text causeNames cause)
+
+pub cause-length : (cause : ℕ) → length (completionCause cause .value) ≡ 4 + length (getD causeNames cause [])
+cause-length cause = simp length-append (omega (arith, three-length cause))

@@ -9,7 +9,7 @@ use Rattle.framing.specs.Framing.{opening, framing}
 use Rattle.message.specs.Message.{Field, good, Head, refused, message, Message, part, onField, onReading}
 use Rattle.message.specs.Fields.{lines}
 use Rattle.message.specs.Known.{onceEach, namesOf, valueOf}
-use Rattle.message.specs.Reading.{agrees, judged, fieldsFrom, readFramed, reading, heard}
+use Rattle.message.specs.Reading.{agrees, judged, fieldsFrom, readFramed, reading, readBytes}
 use Rattle.message.specs.declared.Span.{Span}
 use Rattle.message.specs.declared.Known.the-variants.{ContentLength}
 use Rattle.answer.specs.Written.{startText, fieldsText, written}
@@ -20,9 +20,9 @@ use Rattle.answer.proofs.FieldLines.{fields-read}
 use Rattle.answer.proofs.Frames.{opens, follows, opened, frame}
 
 -- where no bytes are there, more are needed
-pub nothing-heard : heard [] ≡ refused 1 0
-unfolding heard reading framing opening
-nothing-heard = refl
+pub nothing-read : readBytes [] ≡ refused 1 0
+unfolding readBytes reading framing opening
+nothing-read = refl
 
 -- judgement 2 passes what keeps its rules
 judged-good : (f : List ℕ) (fs : List (Field Span)) (b : ℕ) (texts : List (Field (List ℕ))) (n : ℕ)
@@ -73,8 +73,8 @@ module _ (m : Message) where
       ap (readFramed (written m ++ rest)) (frame m rest (w .fits))
       ∙ rw (take-append-seam (written m) rest, start-read (written m) (opens m) (m .start) _ (w .start) alone, fields-from w)
 
-  pub parts-stand : (rest : List ℕ) → Writable m → heard (written m ++ rest) ≡ message head (m .start) (good (m .fields) (m .body))
-  unfolding heard
+  pub parts-stand : (rest : List ℕ) → Writable m → readBytes (written m ++ rest) ≡ message head (m .start) (good (m .fields) (m .body))
+  unfolding readBytes
   parts-stand rest w =
       let s : List ℕ = written m ++ rest in
       let start = start-back s (opens m) (m .start) _ (opened m rest) in

@@ -1,16 +1,17 @@
 -- Values of fields that need no trimming: texts of visible bytes, lists of ids, and completion causes.
-use Prim.Native.Nat.{ℕ, zero, suc, _≤_}
+use Prim.Native.Nat.{ℕ, _≤_}
 use native.Mathlib.Omega.{arith}
 use mathlib.Core.Path.{_≡_, refl, ap, _∙_}
-use mathlib.Core.Bool.{Bool, true, false}
+use mathlib.Core.Bool.{Bool, true, false, _&&_}
 use mathlib.Core.List.{List, [], _∷_}
-use lib.Dec.{leb, lit≤}
+use lib.Dec.{leb, eqb}
 use lib.ListN.{length}
-use borrow.Author.Tests.{leb-true, le-leb, ne-eqb}
-use Rattle.lists.specs.Lists.{all, run}
+use borrow.Author.Tests.{leb-true, le-leb, eqb-true, ne-eqb}
+use Rattle.lists.specs.Lists.{all, run, same}
 use Rattle.octets.specs.Octets.{within, isDigit, isValue, isBlank}
 use Rattle.lists.proofs.Tests.{both}
-use Rattle.lists.proofs.Scans.{all-append, all-of}
+use Rattle.lists.proofs.Scans.{all-append, all-of, same-so}
+use Rattle.octets.proofs.Bits.{agree}
 use Rattle.writers.specs.Decimal.{digits, threeDigits}
 use Rattle.writers.proofs.Digits.{digits-all}
 use Rattle.message.specs.Fields.{kept, trimEnd}
@@ -77,14 +78,22 @@ list-visible i is = all-append isVisible (digits i) (behindCommas is) (digits-vi
 
 -- ---- causes 0 to 7
 
-pub cause-fits : (cause : ℕ) → cause ≤ 7 → ValueFits (completionCause cause .value) × (length (completionCause cause .value) ≤ 24)
-unfolding threeDigits
-cause-fits zero h = (record { values = refl; front = refl; end = refl }, lit≤ tt)
-cause-fits (suc zero) h = (record { values = refl; front = refl; end = refl }, lit≤ tt)
-cause-fits (suc (suc zero)) h = (record { values = refl; front = refl; end = refl }, lit≤ tt)
-cause-fits (suc (suc (suc zero))) h = (record { values = refl; front = refl; end = refl }, lit≤ tt)
-cause-fits (suc (suc (suc (suc zero)))) h = (record { values = refl; front = refl; end = refl }, lit≤ tt)
-cause-fits (suc (suc (suc (suc (suc zero))))) h = (record { values = refl; front = refl; end = refl }, lit≤ tt)
-cause-fits (suc (suc (suc (suc (suc (suc zero)))))) h = (record { values = refl; front = refl; end = refl }, lit≤ tt)
-cause-fits (suc (suc (suc (suc (suc (suc (suc zero))))))) h = (record { values = refl; front = refl; end = refl }, lit≤ tt)
-cause-fits (suc (suc (suc (suc (suc (suc (suc (suc n)))))))) h = absurd (omega arith)
+-- a value that fits, of at most 24 bytes, as one test
+fitting : List ℕ → Bool
+fitting v = all isValue v && (eqb (run isBlank v) 0 && (same (trimEnd v) v && leb (length v) 24))
+
+fitting-so : (v : List ℕ) → fitting v ≡ true → ValueFits v × (length v ≤ 24)
+unfolding fitting
+fitting-so v e =
+    let values = both (all isValue v) _ e in
+    let front = both (eqb (run isBlank v) 0) _ (values .1) in
+    let end = both (same (trimEnd v) v) (leb (length v) 24) (front .1) in (
+      record { values = values .0; front = eqb-true (run isBlank v) 0 (front .0); end = same-so _ v (end .0) },
+      leb-true (length v) 24 (end .1),
+    )
+
+pub cause-fits : (cause : ℕ) → cause ≤ 7
+    → ValueFits (completionCause cause .value) × (length (completionCause cause .value) ≤ 24)
+unfolding threeDigits fitting
+cause-fits cause h =
+    fitting-so _ (agree (λ n. fitting (completionCause n .value)) (λ n. true) false 8 refl cause (omega arith))

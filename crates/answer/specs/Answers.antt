@@ -9,6 +9,7 @@ use Rattle.message.specs.Message as M
 use Rattle.message.specs.declared.RequestState.{RequestState}
 use Rattle.message.specs.declared.RequestState.the-variants.{Complete}
 use Rattle.answer.specs.IdList.{idListText}
+use Rattle.answer.specs.declared.Answer.{Answer}
 
 abbrev pub channelIdentifier : List ℕ → Field (List ℕ)
 channelIdentifier name = record { name = bytes "Channel-Identifier"; value = name }
@@ -22,6 +23,10 @@ activeRequestIdList (i ∷ is) = record { name = bytes "Active-Request-Id-List";
 unfoldable pub response : List ℕ → ℕ → ℕ → RequestState → List ℕ → Message
 response name id status state ids =
     record { start = M.response id status state; fields = channelIdentifier name ∷ activeRequestIdList ids; body = [] }
+
+-- the same for an answer as the code has it
+abbrev pub responseOf : List ℕ → Answer → List ℕ → Message
+responseOf name a ids = response name (a .id) (a .status .code) (a .state) ids
 
 -- the names of the causes 0 to 7
 abbrev pub causeNames : List (List ℕ)

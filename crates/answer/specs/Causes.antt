@@ -1,27 +1,15 @@
--- The causes of SPEAK-COMPLETE by their numbers: document 01, "Bytes written".
-use Prim.Native.Nat.{ℕ, zero, suc}
-use Rattle.answer.specs.declared.Cause.{Cause}
-use Rattle.answer.specs.declared.Reported.{Reported}
+-- The names of the causes as the code holds them: one behind the other.
+use Prim.Native.Nat.{ℕ, zero, suc, _+_}
+use mathlib.Core.List.{List, [], _∷_, _++_}
+use lib.ListN.{length}
+use Rattle.message.specs.declared.Span.{Span}
 
--- the paper's number of each cause
-abbrev pub causeNumber : Cause → ℕ
-causeNumber Cause.Normal = 0
-causeNumber Cause.BargeIn = 1
-causeNumber Cause.ParseFailure = 2
-causeNumber Cause.UriFailure = 3
-causeNumber Cause.Error = 4
-causeNumber Cause.LanguageUnsupported = 5
-causeNumber Cause.LexiconLoadFailure = 6
-causeNumber Cause.Cancelled = 7
+abbrev pub joined : List (List ℕ) → List ℕ
+joined [] = []
+joined (t ∷ ts) = t ++ joined ts
 
--- the cause with a number, 0 to 7
-abbrev pub causeAt : ℕ → Reported
-causeAt zero = Reported.Cause Cause.Normal
-causeAt (suc zero) = Reported.Cause Cause.BargeIn
-causeAt (suc (suc zero)) = Reported.Cause Cause.ParseFailure
-causeAt (suc (suc (suc zero))) = Reported.Cause Cause.UriFailure
-causeAt (suc (suc (suc (suc zero)))) = Reported.Cause Cause.Error
-causeAt (suc (suc (suc (suc (suc zero))))) = Reported.Cause Cause.LanguageUnsupported
-causeAt (suc (suc (suc (suc (suc (suc zero)))))) = Reported.Cause Cause.LexiconLoadFailure
-causeAt (suc (suc (suc (suc (suc (suc (suc zero))))))) = Reported.Cause Cause.Cancelled
-causeAt (suc (suc (suc (suc (suc (suc (suc (suc n)))))))) = Reported.NoCause
+-- where the text with that number stands among them: behind them all, and with no byte, where there is none
+unfoldable pub placed : List (List ℕ) → ℕ → Span
+placed [] n = record { start = 0; len = 0 }
+placed (t ∷ ts) zero = record { start = 0; len = length t }
+placed (t ∷ ts) (suc n) = record { start = length t + placed ts n .start; len = placed ts n .len }

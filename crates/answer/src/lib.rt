@@ -2,7 +2,8 @@
 ghost use mathlib.Core.Path.{_≡_};
 ghost use mathlib.Core.Bool.{cond};
 ghost use Rattle.message.specs.declared.RequestState.{RequestState};
-ghost use Rattle.answer.specs.Causes.{causeAt};
+ghost use Rattle.answer.specs.Answers.{causeNames};
+ghost use Rattle.answer.specs.Causes.{joined, placed};
 
 // A status code.
 pub struct Status {
@@ -16,23 +17,18 @@ pub struct Answer {
     pub state: message::RequestState,
 }
 
-// The causes of SPEAK-COMPLETE, 000 to 007.
-pub enum Cause {
-    Normal,
-    BargeIn,
-    ParseFailure,
-    UriFailure,
-    Error,
-    LanguageUnsupported,
-    LexiconLoadFailure,
-    Cancelled,
-}
+// How many causes SPEAK-COMPLETE has: 000 to 007.
+pub const CAUSES: u32 = 8;
 
-// What an engine reports: one of the causes, or a number above them.
-pub enum Reported {
-    NoCause,
-    Cause(Cause),
-}
+// How many bytes their names have together.
+pub const CAUSE_BYTES: usize = 92;
+
+// Their names, one behind the other.
+const CAUSE_NAMES: [u8; CAUSE_BYTES] =
+    *b"normalbarge-inparse-failureuri-failureerrorlanguage-unsupportedlexicon-load-failurecancelled";
+
+// Where each of them begins, and where the last one ends.
+const CAUSE_STARTS: [u8; 9] = [0, 6, 14, 27, 38, 43, 63, 83, 92];
 
 impl Status {
     pub const SUCCESS: u32 = 200;
@@ -188,19 +184,30 @@ impl Status {
     }
 }
 
-// The cause that has the number `n`.
-pub fn cause_reported(n: u32) -> Reported
-    ensures { λ r. ⌜ r ≡ causeAt n ⌝ }
+// The names of the causes, one behind the other.
+pub fn cause_names() -> [u8; CAUSE_BYTES]
+    ensures { λ r. ⌜ r ≡ joined causeNames ⌝ }
 {
-    match n {
-        0 => Reported::Cause(Cause::Normal),
-        1 => Reported::Cause(Cause::BargeIn),
-        2 => Reported::Cause(Cause::ParseFailure),
-        3 => Reported::Cause(Cause::UriFailure),
-        4 => Reported::Cause(Cause::Error),
-        5 => Reported::Cause(Cause::LanguageUnsupported),
-        6 => Reported::Cause(Cause::LexiconLoadFailure),
-        7 => Reported::Cause(Cause::Cancelled),
-        _ => Reported::NoCause,
+    CAUSE_NAMES
+}
+
+// Where among them the name of a cause stands: behind them all, and with no byte, where there is no such cause.
+pub fn cause_place(cause: u32) -> message::Span
+    ensures { λ r. ⌜ r ≡ placed causeNames cause ⌝ }
+{
+    if cause < CAUSES {
+        let starts = CAUSE_STARTS;
+        let n = cause as usize;
+        let start = starts[n] as usize;
+        let end = starts[n + 1] as usize;
+        message::Span {
+            start,
+            len: end - start,
+        }
+    } else {
+        message::Span {
+            start: CAUSE_BYTES,
+            len: 0,
+        }
     }
 }

@@ -6,8 +6,6 @@ use mathlib.Core.List.{List, _++_}
 use native.Mathlib.Omega.{arith}
 use lib.Dec.{ltb}
 use lib.ListN.{length, drop}
-use mir.Val.{Val}
-use denote.Laws.{Is}
 use Rattle.answer.specs.Written.{writtenAll}
 use Rattle.output.specs.Delivery.{counted, delivered}
 use Rattle.output.specs.declared.Written.{Written}
@@ -16,12 +14,11 @@ use Rattle.synth.specs.Channel.{View, sound}
 use Rattle.synth.specs.Calls.{Call, Reply, refuse, deliver, call}
 use Rattle.synth.specs.States as S
 use Rattle.synth.proofs.Channels.{sound-facts}
+use Rattle.synth.specs.declared.LastId.{LastId}
 use Rattle.channel.specs.Channel.{view}
 use Rattle.channel.specs.declared.Channel.{Channel}
-use Rattle.channel.proofs.Channel.{the-row}
-use Rattle.channel.proofs.Names.{name-fits}
-use Rattle.channel.proofs.Views.{size-is}
-use Rattle.calls.specs.Promise.{Leaves}
+use Rattle.channelnames.proofs.Fits.{name-fits}
+use Rattle.calls.specs.Promise.{Leaves, refusing}
 use Rattle.calls.specs.declared.Handled.{Handled}
 
 -- what soundness says of the arrays
@@ -32,33 +29,31 @@ module _ (v : View) (s : sound v ≡ true) where
   pub queue-short : length (v .queue) ≤ 16
   queue-short = sound-facts v s .few
 
-pub size-short : (c : Channel) (vs : List Val) → Is the-row c vs → sound (view c) ≡ true → c .size ≤ 44
-size-short c vs good s = rw (size-is c vs good) at (name-short (view c) s)
+module _ {last : LastId} {c : Channel} where
+  pub turned : {t u : Turn View Reply} {out : List ℕ} {r : Handled} {after : List ℕ} → t ≡ u → Leaves last c t out r after → Leaves last c u out r after
+  turned {t} {u} {out} {r} {after} e h = subst (λ (x : Turn View Reply). Leaves last c x out r after) e h
 
-pub turned : {c : Channel} {t u : Turn View Reply} {out : List ℕ} {r : Handled} {after : List ℕ} → t ≡ u → Leaves c t out r after → Leaves c u out r after
-turned {c} {t} {u} {out} {r} {after} e h = subst (λ (x : Turn View Reply). Leaves c x out r after) e h
-
--- a refusal
-pub leaves-refused : (c : Channel) (number consumed : ℕ) (out : List ℕ) {r : Handled} {t : Turn View Reply}
-    → r ≡ record { number = number; consumed = consumed; written = 0; channel = c } → t ≡ refuse (view c) number consumed → Leaves c t out r out
-leaves-refused c number consumed out e f = rw (e, f) (record { same = refl; kept = λ n. refl })
+  -- a refusal
+  pub leaves-refused : (number consumed : ℕ) (out : List ℕ) {r : Handled} {t : Turn View Reply} → r ≡ refusing last c number consumed
+      → t ≡ refuse (view last c) number consumed → Leaves last c t out r out
+  leaves-refused number consumed out e f = rw (e, f) (record { same = refl; kept = λ n. (refl, refl) })
 
 -- an answer bs that is delivered, or refused where it is longer than the output
-module _ (c : Channel) (consumed : ℕ) (out bs : List ℕ) (d : S.Outcome) (says : writtenAll (d .says) ≡ bs) (w : Written) (p : w ≡ counted bs out)
+module _ (last : LastId) (c : Channel) (consumed : ℕ) (out bs : List ℕ) (d : S.Outcome) (says : writtenAll (d .says) ≡ bs) (w : Written) (p : w ≡ counted bs out)
     (after : List ℕ) (q : after ≡ delivered bs out) where
   abbrev turn : Bool → Turn View Reply
   turn b = elim b [
-    | true ↦ refuse (view c) 7 0
+    | true ↦ refuse (view last c) 7 0
     | false ↦ record { reply = record { number = 0; consumed = consumed; written = bs }; next = d .next }
   ]
 
-  turn-is : deliver (view c) consumed (length out) d ≡ turn (ltb (length out) (length bs))
+  turn-is : deliver (view last c) consumed (length out) d ≡ turn (ltb (length out) (length bs))
   unfolding deliver
   turn-is = ap {B = Turn View Reply} delivering says
     where
       delivering : List ℕ → Turn View Reply
       delivering l = elim (ltb (length out) (length l)) [
-        | true ↦ refuse (view c) 7 0
+        | true ↦ refuse (view last c) 7 0
         | false ↦ record { reply = record { number = 0; consumed = consumed; written = l }; next = d .next }
       ]
 
@@ -76,20 +71,22 @@ module _ (c : Channel) (consumed : ℕ) (out bs : List ℕ) (d : S.Outcome) (say
   unfolding delivered
   holds-is = q
 
-  pub leaves-too-long : w ≡ Written.TooLong → {r : Handled} → r ≡ record { number = 7; consumed = 0; written = 0; channel = c }
-      → Leaves c (deliver (view c) consumed (length out) d) out r after
-  leaves-too-long e {r} f = subst (λ t. Leaves c t out r after) (sym turn-is) (go (ltb (length out) (length bs)) (sym counts-is ∙ e) holds-is)
+  pub leaves-too-long : w ≡ Written.TooLong → {r : Handled} → r ≡ refusing last c 7 0
+      → Leaves last c (deliver (view last c) consumed (length out) d) out r after
+  leaves-too-long e {r} f = subst (λ t. Leaves last c t out r after) (sym turn-is) (go (ltb (length out) (length bs)) (sym counts-is ∙ e) holds-is)
     where
-      go : (b : Bool) → counts b ≡ Written.TooLong → after ≡ holds b → Leaves c (turn b) out r after
-      go true x y = rw y (leaves-refused c 7 0 out f refl)
+      go : (b : Bool) → counts b ≡ Written.TooLong → after ≡ holds b → Leaves last c (turn b) out r after
+      go true x y = rw y (leaves-refused 7 0 out f refl)
       go false x y = let z : _≡_ {A = ℕ} 0 1 = cc in absurd (omega arith)
 
-  pub leaves-answer : (n : ℕ) → w ≡ Written.Count n → (next : Channel) → view next ≡ d .next
-      → Leaves c (deliver (view c) consumed (length out) d) out (record { number = 0; consumed = consumed; written = n; channel = next }) after
-  leaves-answer n e next f = subst (λ t. Leaves c t out (record { number = 0; consumed = consumed; written = n; channel = next }) after) (sym turn-is)
+  pub leaves-answer : (n : ℕ) → w ≡ Written.Count n → (seen : LastId) (next : Channel) → view seen next ≡ d .next
+      → Leaves last c (deliver (view last c) consumed (length out) d) out (record { number = 0; consumed = consumed; written = n; last = seen; channel = next }) after
+  leaves-answer n e seen next f =
+      subst (λ t. Leaves last c t out (record { number = 0; consumed = consumed; written = n; last = seen; channel = next }) after) (sym turn-is)
       (go (ltb (length out) (length bs)) (sym counts-is ∙ e) holds-is)
     where
-      go : (b : Bool) → counts b ≡ Written.Count n → after ≡ holds b → Leaves c (turn b) out (record { number = 0; consumed = consumed; written = n; channel = next }) after
+      go : (b : Bool) → counts b ≡ Written.Count n → after ≡ holds b
+          → Leaves last c (turn b) out (record { number = 0; consumed = consumed; written = n; last = seen; channel = next }) after
       go true x y = let z : _≡_ {A = ℕ} 0 1 = cc in absurd (omega arith)
       go false x y =
           let m : length bs ≡ n = cc in

@@ -6,6 +6,7 @@ use lib.ListN.{length, drop}
 use Rattle.ledger.specs.Ledger.{Turn}
 use Rattle.synth.specs.Channel.{View}
 use Rattle.synth.specs.Calls.{Lent, Reply, call}
+use Rattle.synth.specs.declared.LastId.{LastId}
 use Rattle.channel.specs.Channel.{view}
 use Rattle.channel.specs.declared.Channel.{Channel}
 use Rattle.calls.specs.declared.Handled.{Handled}
@@ -30,13 +31,18 @@ leftBy t out = record {
 
 -- the same from what the code returns, and the output afterwards
 abbrev pub leftIn : Handled → List ℕ → Left
-leftIn r out = record { number = r .number; consumed = r .consumed; written = r .written; channel = view (r .channel); out = out }
+leftIn r out =
+    record { number = r .number; consumed = r .consumed; written = r .written; channel = view (r .last) (r .channel); out = out }
+
+-- what a refused call returns
+abbrev pub refusing : LastId → Channel → ℕ → ℕ → Handled
+refusing last c number consumed = record { number = number; consumed = consumed; written = 0; last = last; channel = c }
 
 -- a call on the channel c leaves what the turn t says; a refused call gives back the very channel handed in
-pub record Leaves (c : Channel) (t : Turn View Reply) (out : List ℕ) (r : Handled) (after : List ℕ) : Type 0 where
+pub record Leaves (last : LastId) (c : Channel) (t : Turn View Reply) (out : List ℕ) (r : Handled) (after : List ℕ) : Type 0 where
   pub same : leftIn r after ≡ leftBy t out
-  pub kept : (r .number ≡ 0 → ⊥) → r .channel ≡ c
+  pub kept : (r .number ≡ 0 → ⊥) → (r .last ≡ last) × (r .channel ≡ c)
 
 -- the promise of `handle` and `report`: of any channel, any input or cause, and any output
-abbrev pub Promise : Channel → Lent → List ℕ → Handled → List ℕ → Type 0
-Promise c lent out r after = Leaves c (call (view c) (record { lent = lent; room = length out })) out r after
+abbrev pub Promise : LastId → Channel → Lent → List ℕ → Handled → List ℕ → Type 0
+Promise last c lent out r after = Leaves last c (call (view last c) (record { lent = lent; room = length out })) out r after

@@ -1,3 +1,2 @@
-pub mod Names
-pub mod Views
-pub mod Turns
+mod Opening
+pub mod Parts

@@ -1,11 +1,23 @@
-// Whether bytes are a channel name: document 01, "Numbers".
+// A channel's name: document 01, "Numbers".
 ghost use mathlib.Core.Path.{_≡_};
-ghost use mathlib.Core.Bool.{_||_};
-ghost use Prim.Native.Nat.{_≤_};
-ghost use lib.ListN.{length};
-ghost use Rattle.lists.specs.Lists.{run};
+ghost use mathlib.Core.Bool.{_||_, _&&_};
+ghost use mathlib.Core.List.{[], _++_};
+ghost use Prim.Native.Nat.{_-_, _≤_, _<_};
+ghost use lib.Dec.{leb};
+ghost use lib.ListN.{length, replicate};
+ghost use Rattle.lists.specs.Lists.{run, same};
 ghost use Rattle.octets.specs.Octets.{within, isLetter, isDigit};
 ghost use Rattle.synth.specs.Channel.{wellNamed};
+ghost use Rattle.channelnames.specs.Names.{nameOf, keptName};
+
+// How many bytes the longest name has.
+pub const LONGEST: usize = 44;
+
+// A name as it is kept: the first `size` of `bytes`.
+pub struct Name {
+    pub bytes: [u8; LONGEST],
+    pub size: usize,
+}
 
 fn within(from: u8, to: u8, b: u8) -> bool
     ensures { λ r. ⌜ r ≡ within from to b ⌝ }
@@ -54,4 +66,58 @@ pub fn well_named(name: &[u8]) -> bool
         return false;
     }
     octets::equal(&name[k..], b"@speechsynth")
+}
+
+// Any name at all may be handed in, its size past the array too.
+pub fn is_well_named(n: Name) -> bool
+    ensures { λ r. ⌜ r ≡ wellNamed (nameOf n) ⌝ }
+{
+    let size = n.size;
+    if LONGEST < size {
+        return false;
+    }
+    let bytes = n.bytes;
+    well_named(&bytes[..size])
+}
+
+// Whether the name is `v`. One longer than the array is none.
+pub fn is_name(n: Name, v: &[u8]) -> bool
+    ensures { λ r. ⌜ r ≡ (leb (length (nameOf n)) 44 && same (nameOf n) (now (v .entry))) ⌝ }
+{
+    let size = n.size;
+    if LONGEST < size {
+        return false;
+    }
+    let bytes = n.bytes;
+    octets::equal(&bytes[..size], v)
+}
+
+// The bytes, and zeros after them.
+fn padded(name: &[u8]) -> [u8; LONGEST]
+    requires { ⌜ length (now name) ≤ 44 ⌝ }
+    ensures { λ r. ⌜ r ≡ now (name .entry) ++ replicate (44 - length (now (name .entry))) 0 ⌝ }
+{
+    let mut r = [0u8; LONGEST];
+    let mut i: usize = 0;
+    while i < name.len() {
+        r[i] = name[i];
+        i += 1;
+    }
+    r
+}
+
+// The name `v` as it is kept; an empty one where it is longer than the array.
+pub fn kept(v: &[u8]) -> Name
+    ensures { λ r. ⌜ (length (now (v .entry)) ≤ 44 → r ≡ keptName (now (v .entry))) ⌝ }
+    ensures { λ r. ⌜ (44 < length (now (v .entry)) → r ≡ keptName []) ⌝ }
+{
+    if LONGEST < v.len() {
+        return Name {
+            bytes: [0u8; LONGEST],
+            size: 0,
+        };
+    }
+    let size = v.len();
+    let bytes = padded(v);
+    Name { bytes, size }
 }

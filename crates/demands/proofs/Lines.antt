@@ -12,7 +12,7 @@ use Rattle.framing.specs.declared.Framing.{Framing}
 use Rattle.framing.specs.declared.Framing.the-variants.{More, NoMessage, TooLong, TooShort, Frame}
 use Rattle.message.specs.Message.{Start, Fields, request, response, event, Head, part, onReading, message}
 use Rattle.message.specs.StartLines.{Started, started, startLine}
-use Rattle.message.specs.Reading.{readFrom, readFramed, reading, heard}
+use Rattle.message.specs.Reading.{readFrom, readFramed, reading, readBytes}
 use Rattle.message.specs.declared.Span.{Span}
 use Rattle.answer.specs.Written.{writtenAll}
 use Rattle.ledger.specs.Ledger.{Turn}
@@ -49,20 +49,20 @@ module _ (v : View) (room : ℕ) where
 
         module _ (x : Start Span) (at : ℕ) (g : startLine k (take n s) ≡ started x at) where
           -- the exact answer to a request is longer than the output, or not
-          answer-fits : (name : List ℕ) (id : ℕ) (fs : Fields (List ℕ)) → heard s ≡ message head (request name id) fs
+          answer-fits : (name : List ℕ) (id : ℕ) (fs : Fields (List ℕ)) → readBytes s ≡ message head (request name id) fs
               → (c : Bool) → ltb room (length (writtenAll (judge v (requestOf head name id fs) .says))) ≡ c → Tabled v (input s) room
           unfolding call table deliver
           answer-fits name id fs e true r = rw (sane, f, e, g, r, call, table, deliver) (refl, refl, λ y. refl)
           answer-fits name id fs e false r = rw (sane, f, e, g, r, call, table, deliver) refl
 
-        by-line : (y : Started) → startLine k (take n s) ≡ y → heard s ≡ onReading (part s) (readFrom head (take n s) y) → Tabled v (input s) room
+        by-line : (y : Started) → startLine k (take n s) ≡ y → readBytes s ≡ onReading (part s) (readFrom head (take n s) y) → Tabled v (input s) room
         unfolding call table
         by-line Started.malformed g e = rw (sane, f, e, g, call, table) (refl, refl, λ y. refl)
         by-line (started (request name id) at) g e = answer-fits (request name id) at g (part s name) id _ e _ refl
         by-line (started (response id status state) at) g e = rw (sane, f, e, g, call, table) (refl, refl, λ y. refl)
         by-line (started (event name id state) at) g e = rw (sane, f, e, g, call, table) (refl, refl, λ y. refl)
 
-      by-framing : (x : Framing) → framing s ≡ x → heard s ≡ onReading (part s) (readFramed s x) → Tabled v (input s) room
+      by-framing : (x : Framing) → framing s ≡ x → readBytes s ≡ onReading (part s) (readFramed s x) → Tabled v (input s) room
       unfolding call table
       by-framing More f e = rw (sane, f, e, call, table) (refl, refl, λ y. refl)
       by-framing NoMessage f e = rw (sane, f, e, call, table) (refl, refl, λ y. refl)
@@ -71,7 +71,7 @@ module _ (v : View) (room : ℕ) where
       by-framing (Frame a b k n) f e = by-line a b k n f (startLine k (take n s)) refl e
 
       message-tabled : Tabled v (input s) room
-      unfolding heard reading
+      unfolding readBytes reading
       message-tabled = by-framing (framing s) refl refl
 
     module _ (n : ℕ) where

@@ -13,9 +13,9 @@ use Rattle.framing.specs.declared.Framing.{Framing}
 use Rattle.framing.specs.declared.Framing.the-variants.{More, NoMessage, TooLong, TooShort, Frame}
 use Rattle.message.specs.Message.{Reading, refused, message, request, response, event}
 use Rattle.message.specs.StartLines.{Started, started, startLine}
-use Rattle.message.specs.Reading.{heard}
+use Rattle.message.specs.Reading.{readBytes}
 use Rattle.answer.specs.Written.{writtenAll}
-use Rattle.ledger.specs.Ledger.{Seen, Balanced, Run}
+use Rattle.ledger.specs.Ledger.{Exchange, Balanced, Run}
 use Rattle.synth.specs.Channel.{View, held, sound}
 use Rattle.synth.specs.Request.{requestOf}
 use Rattle.synth.specs.States.{Outcome, judge, completed}
@@ -24,10 +24,12 @@ use Rattle.synth.specs.Demand3.{accepts, closes}
 use Rattle.synth.specs.declared.State.{State}
 use Rattle.synth.specs.declared.State.the-variants.{Idle, Speaking, Paused}
 use Rattle.synth.specs.declared.Entry.{Entry}
+use Rattle.synth.specs.declared.LastId.{LastId}
+use Rattle.synth.specs.declared.LastId.the-variants.{NoneSeen}
 use Rattle.channel.specs.Channel.{view, opened}
 use Rattle.channel.specs.declared.Channel.{Channel}
-use Rattle.channel.specs.declared.Opening.{Opening}
-use Rattle.calls.specs.Promise.{Promise, leftIn}
+use Rattle.channel.specs.declared.Opened.{Opened}
+use Rattle.calls.specs.Promise.{Promise, leftIn, refusing}
 use Rattle.calls.specs.declared.Handled.{Handled}
 
 -- a line of the table of refusals, by the paper's columns: its number, given exactly when it is due, and the input consumed
@@ -84,7 +86,7 @@ ending v (e ∷ queue) n = completed e queue v n
 
 -- what a call that no line refuses says, and the channel afterwards
 abbrev pub outcome : View → Lent → Outcome
-outcome v (input s) = answering v (heard s)
+outcome v (input s) = answering v (readBytes s)
 outcome v (cause n) = ending v (v .queue) n
 
 -- the exact answer
@@ -105,7 +107,7 @@ table v (input s) room =
     ∷ given 3 (eqb (refusal (framing s)) 3) 0  -- stated length above 16,384
     ∷ given 4 (eqb (refusal (framing s)) 4) 0  -- stated length below the opening's own length
     ∷ given 5 (malformedIn s (framing s)) (stated (input s))  -- framed, start line malformed
-    ∷ given 6 (noRequest (heard s)) (stated (input s))  -- framed, a response or event, no request
+    ∷ given 6 (noRequest (readBytes s)) (stated (input s))  -- framed, a response or event, no request
     ∷ given 7 (ltb room (length (exact v (input s)))) 0  -- the exact answer is longer than the lent output
     ∷ []
 table v (cause n) room =
@@ -122,41 +124,53 @@ firstDue (l ∷ ls) = elim (l .due) [ true ↦ some l | false ↦ firstDue ls ]
 
 -- A line that is due: its number and count, no byte written, the very channel, the output as it was. None due: 0, the stated length as
 -- consumed, the exact answer at the front of the output, its rest as it was, and the channel of the outcome.
-abbrev pub ByTable : Option Line → Channel → Lent → List ℕ → Handled → List ℕ → Type 0
-ByTable (some l) c lent out r after =
-    (r ≡ record { number = l .number; consumed = l .consumed; written = 0; channel = c }) × (after ≡ out)
-ByTable none c lent out r after =
-    let answer : List ℕ = exact (view c) lent in
+abbrev pub ByTable : Option Line → LastId → Channel → Lent → List ℕ → Handled → List ℕ → Type 0
+ByTable (some l) last c lent out r after = (r ≡ refusing last c (l .number) (l .consumed)) × (after ≡ out)
+ByTable none last c lent out r after =
+    let answer : List ℕ = exact (view last c) lent in
     leftIn r after ≡ record {
       number = 0;
       consumed = stated lent;
       written = length answer;
-      channel = outcome (view c) lent .next;
+      channel = outcome (view last c) lent .next;
       out = answer ++ drop (length answer) out;
     }
 
 -- Demand 1: whatever `handle` and `report` promise is what the first line of the table that is due says, and a sound channel stays sound
 abbrev pub Demand1OfTheCode : Type 0
-Demand1OfTheCode = (c : Channel) (lent : Lent) (out : List ℕ) (r : Handled) (after : List ℕ) → Promise c lent out r after
-    → ByTable (firstDue (table (view c) lent (length out))) c lent out r after × (sound (view c) ≡ true → sound (view (r .channel)) ≡ true)
+Demand1OfTheCode = (last : LastId) (c : Channel) (lent : Lent) (out : List ℕ) (r : Handled) (after : List ℕ) → Promise last c lent out r after
+    → ByTable (firstDue (table (view last c) lent (length out))) last c lent out r after
+    × (sound (view last c) ≡ true → sound (view (r .last) (r .channel)) ≡ true)
 
--- one call of the code on the channel c, and what is seen of it from outside
-pub record Called (c : Channel) (k : Call) (r : Reply) (next : Channel) : Type 0 where
+-- what a caller keeps from call to call: the last id seen, and the channel
+pub record Kept : Type 0 where
+  pub last : LastId
+  pub channel : Channel
+
+abbrev pub viewed : Kept → View
+viewed k = view (k .last) (k .channel)
+
+-- one call of the code on what is kept, and what is seen of it from outside
+pub record Called (kept : Kept) (k : Call) (r : Reply) (next : Kept) : Type 0 where
   pub out : List ℕ
   pub after : List ℕ
   pub handled : Handled
   pub room : k .room ≡ length out
-  pub promised : Promise c (k .lent) out handled after
+  pub promised : Promise (kept .last) (kept .channel) (k .lent) out handled after
   pub seen : r ≡ record { number = handled .number; consumed = handled .consumed; written = take (handled .written) after }
-  pub left : next ≡ handled .channel
+  pub left : next ≡ record { last = handled .last; channel = handled .channel }
+
+-- as `open_channel` returned it
+abbrev pub opening : Opened → Kept
+opening o = record { last = NoneSeen; channel = o .channel }
 
 -- Demand 3: for every list of calls on a channel as `open_channel` returned it, with any outputs
 abbrev pub Demand3OfTheCode : Type 0
-Demand3OfTheCode = (name : List ℕ) (o : Opening) (calls : List (Seen Call Reply)) (last : Channel)
-    → opened o ≡ openChannel name → Run Called (o .channel) calls last → Balanced accepts closes calls (held (view last))
+Demand3OfTheCode = (name : List ℕ) (o : Opened) (calls : List (Exchange Call Reply)) (end : Kept)
+    → opened o ≡ openChannel name → Run Called (opening o) calls end → Balanced accepts closes calls (held (viewed end))
 
 -- every list of calls on a channel that was opened with number 0 leaves a sound channel, and none of them is refused with 21
 abbrev pub SoundOfTheCode : Type 0
-SoundOfTheCode = (name : List ℕ) (o : Opening) (calls : List (Seen Call Reply)) (last : Channel)
-    → opened o ≡ openChannel name → o .number ≡ 0 → Run Called (o .channel) calls last
-    → (sound (view last) ≡ true) × All (λ (x : Seen Call Reply). x .reply .number ≡ 21 → ⊥) calls
+SoundOfTheCode = (name : List ℕ) (o : Opened) (calls : List (Exchange Call Reply)) (end : Kept)
+    → opened o ≡ openChannel name → o .number ≡ 0 → Run Called (opening o) calls end
+    → (sound (viewed end) ≡ true) × All (λ (x : Exchange Call Reply). x .reply .number ≡ 21 → ⊥) calls

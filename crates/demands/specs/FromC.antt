@@ -6,11 +6,11 @@ use mathlib.Core.List.{List, [], _++_}
 use lib.ListN.{length, take, drop}
 use Rattle.lists.specs.Lists.{minus}
 use Rattle.message.specs.Reading.{messagesIn}
-use Rattle.ledger.specs.Ledger.{Seen, Balanced, Run, accepted, closed}
+use Rattle.ledger.specs.Ledger.{Exchange, Balanced, Run, accepted, closed}
 use Rattle.synth.specs.Channel.{View, held}
 use Rattle.synth.specs.Calls.{Lent, Call, Reply}
 use Rattle.synth.specs.Demand3.{accepts, closes}
-use Rattle.words.specs.Words.{numbersOf, viewOf}
+use Rattle.channelnumbers.specs.Numbers.{numbersOf, viewOf}
 use Rattle.klarvesimo.specs.Face.{openFace, CallFace, callFace, heldFace}
 use Rattle.demands.specs.Demands.{Line, table, firstDue, outcome, exact, stated}
 
@@ -57,13 +57,13 @@ pub record CalledFromC (ws : List ℕ) (k : Call) (r : Reply) (next : List ℕ) 
 
 -- Demand 3 as C sees it: for every list of calls on the numbers that `klarvesimo_open` gave, each call getting those that the last one left
 abbrev pub Demand3OfTheFace : Type 0
-Demand3OfTheFace = (name : List ℕ) (calls : List (Seen Call Reply)) (last : List ℕ)
+Demand3OfTheFace = (name : List ℕ) (calls : List (Exchange Call Reply)) (last : List ℕ)
     → Run CalledFromC (openFace name .channel) calls last → Balanced accepts closes calls (heldIn (viewOf last))
 
 -- Whatever calls came on a channel that `klarvesimo_open` opened, `klarvesimo_held`, lent 16 numbers or more, gives the ids that were accepted and
 -- not closed, in order of acceptance.
 abbrev pub HeldOfTheFace : Type 0
-HeldOfTheFace = (name : List ℕ) (calls : List (Seen Call Reply)) (last out : List ℕ)
+HeldOfTheFace = (name : List ℕ) (calls : List (Exchange Call Reply)) (last out : List ℕ)
     → openFace name .number ≡ 0 → Run CalledFromC (openFace name .channel) calls last → 16 ≤ length out
     → (let ids : List ℕ = minus (accepted accepts closes calls) (closed accepts closes calls) in
     heldFace last out ≡ record { number = 0; count = length ids; ids = ids ++ drop (length ids) out })

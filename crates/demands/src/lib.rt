@@ -1,1 +1,2 @@
-// Theory alone: demands 1 and 3 about the code, at the clause that the contracts of `client::handle` and `engine::report` state.
+// Theory alone: demands 1 and 3 about the code, at the clause that the contracts of `client::handle` and
+// `engine::report` state.

@@ -1,91 +1,165 @@
--- How numbers and runs of digits go on at a position of the bytes: one law for each way that a turn of a loop can go.
--- Assumes nothing.
-use mathlib.Core.Path.{_≡_, refl, sym, ap, _∙_}
-use mathlib.Core.Bool.{true, false}
+-- How digits and numbers go on at a position of the bytes: one law for each way that a turn of the loop can go; and the
+-- number, by the digits that were read. Assumes nothing.
+use mathlib.Core.Path.{_≡_, refl, sym, ap, ap₂, _∙_}
+use mathlib.Core.Bool.{Bool, true, false}
 use mathlib.Core.List.{List, [], _∷_}
 use Prim.Native.Nat.{ℕ, zero, suc, _+_, _-_, _*_, _^_, _<_, _≤_, min}
-use native.Mathlib.Nat.{add-assoc, add-zero, zero-add, sub-zero, not-suc-le-zero, pow-le-pow-right, le-of-suc-le-suc}
-use native.Mathlib.Numerals.{add-one, sub-one}
+use native.Mathlib.Nat.{min-zero, zero-min, suc-min-suc}
+use native.Mathlib.Nat.{add-assoc, add-zero, zero-add, not-suc-le-zero, pow-le-pow-right, le-of-suc-le-suc}
+use native.Mathlib.Numerals.{sub-one}
 use native.Mathlib.Omega.{arith}
-use lib.Dec.{lit≤}
+use lib.Dec.{eqb, lit≤}
 use lib.ListN.{length, getD, take, drop, drop-of-length-le}
+use borrow.Author.Tests.{eq-eqb, ne-eqb}
 use Rattle.lists.specs.Lists.{run}
+use Rattle.lists.proofs.Tests.{choose}
 use Rattle.octets.specs.Octets.{isDigit}
 use Rattle.readers.specs.Readers.{Read, short, wrong, got, after, digits, number}
 use Rattle.readers.specs.Words.{decimal}
-use Rattle.readers.proofs.Steps.{yes-at, no-at}
-use Rattle.readers.proofs.Positions.{here}
-use Rattle.digits.specs.Steps.{scanned, atMost19, digitsAt}
+use Rattle.readers.proofs.Steps.{byte-yes, byte-no}
+use Rattle.readers.proofs.Positions.{here, run-yes, run-no}
+use Rattle.digits.specs.Steps.{scanned, atMost19, runFrom, digitsAt}
 use Rattle.digits.specs.declared.Scan.{Scan}
 use Rattle.digits.specs.declared.Digits.{Digits}
+use Rattle.digits.specs.declared.Run.{Run}
 
 -- a digit more may come where at most 18 are there
 pub below-18 : (v k : ℕ) → v < 10 ^ k → k < 19 → v < 10 ^ 18
 below-18 v k h l = omega (arith, pow-le-pow-right {n = 10} (lit≤ tt) {i = k} {j = 18} (le-of-suc-le-suc l))
 
-scanned-after : (i : ℕ) (r : Read ℕ) → scanned i (after 1 r) ≡ scanned (i + 1) r
-scanned-after i short = refl
-scanned-after i wrong = refl
-scanned-after i (got v n) = ap (Scan.Got v) (sym (add-assoc i 1 n))
+after-after : {A : Type 0} (a b : ℕ) (r : Read A) → after a (after b r) ≡ after (a + b) r
+after-after a b short = refl
+after-after a b wrong = refl
+after-after a b (got v k) = ap (got v) (sym (add-assoc a b k))
 
--- a number whose digits so far write v, and of which n more may come
-module _ (s : List ℕ) (i v : ℕ) where
-  pub digits-end : (n : ℕ) → n ≡ 0 → scanned i (digits n v (drop i s)) ≡ Scan.Got v i
-  digits-end n e = rw e (ap (Scan.Got v) (add-zero i))
+-- ---- a turn of the loop: the digits before the position i write v, and n more may come
 
-  pub digits-short : (n : ℕ) → 0 < n → length s ≤ i → scanned i (digits n v (drop i s)) ≡ Scan.Short
-  digits-short zero h l = absurd (not-suc-le-zero h)
-  digits-short (suc n) h l = rw (drop-of-length-le s l)
+module _ (v : ℕ) (s : List ℕ) (i : ℕ) where
+  pub run-end : (n : ℕ) → n ≡ 0 → runFrom n v i (drop i s) ≡ record { value = v; next = i; ended = false }
+  run-end n e = rw e
 
-  pub digits-stop : (n : ℕ) → 0 < n → i < length s → isDigit (getD s i 0) ≡ false → scanned i (digits n v (drop i s)) ≡ Scan.Got v i
-  digits-stop zero h l e = absurd (not-suc-le-zero h)
-  digits-stop (suc n) h l e = ap (scanned i) (no-at _ _ _ s i l e) ∙ ap (Scan.Got v) (add-zero i)
+  pub run-short : (n : ℕ) → 0 < n → length s ≤ i
+      → runFrom n v i (drop i s) ≡ record { value = v; next = i; ended = true }
+  run-short zero h l = absurd (not-suc-le-zero h)
+  run-short (suc n) h l = rw (drop-of-length-le s l)
 
-  pub digits-step : (n w : ℕ) → 0 < n → i < length s → isDigit (getD s i 0) ≡ true → w ≡ v * 10 + (getD s i 0 - 48)
-      → scanned i (digits n v (drop i s)) ≡ scanned (i + 1) (digits (n - 1) w (drop (i + 1) s))
-  digits-step zero w h l e q = absurd (not-suc-le-zero h)
-  digits-step (suc n) w h l e q =
-      rw (q, sub-one) (ap (scanned i) (yes-at _ _ _ s i l e) ∙ scanned-after i (digits n (v * 10 + (getD s i 0 - 48)) (drop (i + 1) s)))
+  pub run-stop : (n : ℕ) → 0 < n → i < length s → isDigit (getD s i 0) ≡ false
+      → runFrom n v i (drop i s) ≡ record { value = v; next = i; ended = false }
+  run-stop zero h l e = absurd (not-suc-le-zero h)
+  run-stop (suc n) h l e = rw (here s i l, e, runFrom)
 
--- the first digit of a number
-module _ (s : List ℕ) (i : ℕ) where
-  pub number-short : (n : ℕ) → length s ≤ i → scanned i (number n (drop i s)) ≡ Scan.Short
-  number-short n l = rw (drop-of-length-le s l)
+  pub run-step : (n w : ℕ) → 0 < n → i < length s → isDigit (getD s i 0) ≡ true → w ≡ v * 10 + (getD s i 0 - 48)
+      → runFrom n v i (drop i s) ≡ runFrom (n - 1) w (i + 1) (drop (i + 1) s)
+  run-step zero w h l e q = absurd (not-suc-le-zero h)
+  run-step (suc n) w h l e q = rw (here s i l, q, sub-one, e, runFrom)
 
-  pub number-wrong : (n : ℕ) → i < length s → isDigit (getD s i 0) ≡ false → scanned i (number n (drop i s)) ≡ Scan.Wrong
-  number-wrong n l e = ap (scanned i) (no-at _ _ _ s i l e)
+-- ---- what was read, as the definitions have it
 
-  pub number-digits : (n : ℕ) → 0 < n → i < length s → isDigit (getD s i 0) ≡ true → number n (drop i s) ≡ digits n 0 (drop i s)
-  number-digits zero h l e = absurd (not-suc-le-zero h)
-  number-digits (suc n) h l e = yes-at _ _ _ s i l e ∙ (rw (sub-one, zero-add)) ∙ sym (yes-at _ _ _ s i l e)
+run-next : (n v i : ℕ) (l : List ℕ) → runFrom n v i l .next ≡ i + min (run isDigit l) n
+run-next zero v i l = omega arith
+run-next (suc n) v i [] = omega arith
+run-next (suc n) v i (x ∷ l) =
+    choose (λ (r : Run). r .next ≡ i + min (run isDigit (x ∷ l)) (suc n)) (isDigit x)
+    (λ e. omega (arith, run-yes isDigit x l e, run-next n (v * 10 + (x - 48)) (i + 1) l))
+    (λ e. omega (arith, run-no isDigit x l e))
 
--- a run of digits, of which k have been read and write v, and n more may come
-abbrev pub onwards : ℕ → ℕ → ℕ → List ℕ → Digits
-onwards v k n l = record { value = decimal v (take (min (run isDigit l) n) l); count = k + min (run isDigit l) n }
+run-value : (n v i : ℕ) (l : List ℕ) → runFrom n v i l .value ≡ decimal v (take (min (run isDigit l) n) l)
+run-value zero v i l = rw (min-zero (run isDigit l))
+run-value (suc n) v i [] = rw (zero-min (suc n))
+run-value (suc n) v i (x ∷ l) =
+    choose (λ (r : Run). r .value ≡ decimal v (take (min (run isDigit (x ∷ l)) (suc n)) (x ∷ l))) (isDigit x)
+    (λ e. rw (run-yes isDigit x l e, suc-min-suc (run isDigit l) n) (run-value n (v * 10 + (x - 48)) (i + 1) l))
+    (λ e. rw (run-no isDigit x l e, zero-min (suc n)))
 
-pub run-start : (most end : ℕ) (l : List ℕ) → end ≡ atMost19 most → digitsAt most l ≡ onwards 0 0 (end - 0) l
-unfolding digitsAt
-run-start most end l e = rw (e, sub-zero, zero-add)
+module _ (most i : ℕ) (l : List ℕ) (r : Run) (e : r ≡ runFrom (atMost19 most) 0 i l) where
+  ends : r .next ≡ i + min (run isDigit l) (atMost19 most)
+  ends = ap (λ (x : Run). x .next) e ∙ run-next (atMost19 most) 0 i l
 
-module _ (v k : ℕ) where
-  none-more : (n : ℕ) (l : List ℕ) → min (run isDigit l) n ≡ 0 → onwards v k n l ≡ record { value = v; count = k }
-  none-more n l e = rw (e, add-zero)
+  pub run-onward : i ≤ r .next
+  run-onward = omega (arith, ends)
 
-  one-more : (n x : ℕ) (l : List ℕ) → isDigit x ≡ true → onwards v k (suc n) (x ∷ l) ≡ onwards (v * 10 + (x - 48)) (k + 1) n l
-  one-more n x l e =
-      let m : min (run isDigit (x ∷ l)) (suc n) ≡ suc (min (run isDigit l) n) = rw (e, run) (omega arith) in
-      rw m (ap (λ c. record { value = decimal v (x ∷ take (min (run isDigit l) n) l); count = c }) (omega arith))
+  pub run-digits : record { value = r .value; count = r .next - i } ≡ digitsAt most l
+  unfolding digitsAt
+  run-digits =
+      ap₂ {C = Digits} (λ (v k : ℕ). record { value = v; count = k })
+      (ap (λ (x : Run). x .value) e ∙ run-value (atMost19 most) 0 i l)
+      (omega (arith, ends))
 
-  module _ (s : List ℕ) (i : ℕ) where
-    pub run-end : (n : ℕ) → n ≡ 0 → onwards v k n (drop i s) ≡ record { value = v; count = k }
-    run-end n e = none-more n (drop i s) (omega arith)
+-- ---- a number, by the digits that were read
 
-    pub run-short : (n : ℕ) → length s ≤ i → onwards v k n (drop i s) ≡ record { value = v; count = k }
-    run-short n l = rw (drop-of-length-le s l) (none-more n [] (omega arith))
+-- what the reader answers, by whether the bytes end there; and what that is for a number, by whether no digit was read
+abbrev readBy : Bool → ℕ → ℕ → Read ℕ
+readBy true v i = short
+readBy false v i = got v i
 
-    pub run-stop : (n : ℕ) → i < length s → isDigit (getD s i 0) ≡ false → onwards v k n (drop i s) ≡ record { value = v; count = k }
-    run-stop n l e = rw (here s i l) (none-more n (getD s i 0 ∷ drop (i + 1) s) (rw (e, run) (omega arith)))
+abbrev pub numberBy : Bool → Bool → ℕ → ℕ → Scan
+numberBy true none v i = Scan.Short
+numberBy false true v i = Scan.Wrong
+numberBy false false v i = Scan.Got v i
 
-    pub run-step : (n m w : ℕ) → n ≡ m + 1 → i < length s → isDigit (getD s i 0) ≡ true → w ≡ v * 10 + (getD s i 0 - 48)
-        → onwards v k n (drop i s) ≡ onwards w (k + 1) m (drop (i + 1) s)
-    run-step n m w h l e q = rw (here s i l, h, q, add-one m) (one-more m (getD s i 0) (drop (i + 1) s) e)
+abbrev read : Run → Read ℕ
+read r = readBy (r .ended) (r .value) (r .next)
+
+abbrev numbered : ℕ → Run → Scan
+numbered at r = numberBy (r .ended) (eqb (r .next) at) (r .value) (r .next)
+
+run-read : (n v i : ℕ) (l : List ℕ) → after i (digits n v l) ≡ read (runFrom n v i l)
+run-read zero v i l = ap (got v) (add-zero i)
+run-read (suc n) v i [] = refl
+run-read (suc n) v i (x ∷ l) =
+    choose (λ (r : Run). after i (digits (suc n) v (x ∷ l)) ≡ read r) (isDigit x)
+    (λ e.
+    ap (after i) (byte-yes isDigit (λ x. digits n (v * 10 + (x - 48))) (got v 0) x l e)
+    ∙ after-after i 1 (digits n (v * 10 + (x - 48)) l)
+    ∙ run-read n (v * 10 + (x - 48)) (i + 1) l)
+    (λ e.
+    ap (after i) (byte-no isDigit (λ x. digits n (v * 10 + (x - 48))) (got v 0) x l e)
+    ∙ ap (got v) (add-zero i))
+
+scanOf : Read ℕ → Scan
+scanOf short = Scan.Short
+scanOf wrong = Scan.Wrong
+scanOf (got v i) = Scan.Got v i
+
+scan-after : (at : ℕ) (r : Read ℕ) → scanned at r ≡ scanOf (after at r)
+unfolding scanOf
+scan-after at short = refl
+scan-after at wrong = refl
+scan-after at (got v n) = refl
+
+some-read : (at : ℕ) (r : Run) → at < r .next → scanOf (read r) ≡ numbered at r
+unfolding scanOf
+some-read at r h =
+    go (r .ended)
+    ∙ ap (λ z. numberBy (r .ended) z (r .value) (r .next)) (sym (ne-eqb (r .next) at (omega arith)))
+  where
+    go : (b : Bool) → scanOf (readBy b (r .value) (r .next)) ≡ numberBy b false (r .value) (r .next)
+    go true = refl
+    go false = refl
+
+number-run : (at n : ℕ) (l : List ℕ) → 0 < n → scanned at (number n l) ≡ numbered at (runFrom n 0 at l)
+number-run at zero l h = absurd (not-suc-le-zero h)
+number-run at (suc n) [] h = refl
+number-run at (suc n) (x ∷ l) h =
+    let more = runFrom n (x - 48) (at + 1) l in
+    let rest : digits (suc n - 1) (x - 48) l ≡ digits n (x - 48) l = rw sub-one in
+    let same : runFrom n (0 * 10 + (x - 48)) (at + 1) l ≡ more = rw (zero-add (x - 48)) in
+    choose (λ (r : Run). scanned at (number (suc n) (x ∷ l)) ≡ numbered at r) (isDigit x)
+    (λ e.
+    ap (scanned at) (byte-yes isDigit (λ x. digits (suc n - 1) (x - 48)) wrong x l e ∙ ap (after 1) rest)
+    ∙ scan-after at (after 1 (digits n (x - 48) l))
+    ∙ ap scanOf (after-after at 1 (digits n (x - 48) l) ∙ run-read n (x - 48) (at + 1) l)
+    ∙ some-read at more (omega (arith, run-next n (x - 48) (at + 1) l))
+    ∙ ap (numbered at) (sym same))
+    (λ e.
+    ap (scanned at) (byte-no isDigit (λ x. digits (suc n - 1) (x - 48)) wrong x l e)
+    ∙ ap (λ z. numberBy false z 0 at) (sym (eq-eqb at at refl)))
+
+-- the number, by what is tested of the digits
+pub number-by : (at n : ℕ) (l : List ℕ) (r : Run) → r ≡ runFrom n 0 at l → 0 < n
+    → (ended none : Bool) → r .ended ≡ ended → eqb (r .next) at ≡ none
+    → numberBy ended none (r .value) (r .next) ≡ scanned at (number n l)
+number-by at n l r e some ended none h z =
+    ap₂ (λ a b. numberBy a b (r .value) (r .next)) (sym h) (sym z)
+    ∙ ap (numbered at) e
+    ∙ sym (number-run at n l some)

@@ -1,23 +1,24 @@
 -- What an engine report comes to, one law for each way out. Assumes nothing.
 use Prim.Native.Nat.{ℕ, _≤_, _<_}
 use mathlib.Core.Path.{_≡_, refl, sym, ap, _∙_}
-use mathlib.Core.Bool.{true, Bool·beq, false≢true}
+use mathlib.Core.Bool.{true, false, Bool·beq, false≢true}
 use mathlib.Core.List.{List, [], _∷_, append-nil}
-use native.Mathlib.Omega.{arith}
-use lib.ListN.{length, drop}
+use lib.ListN.{length}
 use borrow.Author.Tests.{lt-ltb, le-ltb}
 use Rattle.lists.specs.Lists.{isEmpty}
 use Rattle.answer.specs.Written.{written, writtenAll}
 use Rattle.answer.specs.Answers.{speakComplete}
 use Rattle.ledger.specs.Ledger.{Turn}
-use Rattle.synth.specs.Channel.{View, withQueue, isIdle, sound}
+use Rattle.synth.specs.Channel.{View, isIdle, sound}
 use Rattle.synth.specs.Calls.{cause, Reply, refuse, deliver, reported, onSound, call}
-use Rattle.synth.specs.States.{whileAny, completed}
+use Rattle.synth.specs.States.{completed}
 use Rattle.synth.specs.declared.Entry.{Entry}
 use Rattle.synth.specs.declared.State.{State}
 use Rattle.synth.specs.declared.State.the-variants.{Idle, Speaking, Paused}
 use Rattle.synth.proofs.Channels.{sound-facts}
-use Rattle.queue.specs.Queue.{first}
+use Rattle.queue.specs.Queue.{listOf, first, marked, Ends}
+use Rattle.queue.specs.declared.Ended.{Ended}
+use Rattle.queue.proofs.Masks.{others-remain}
 
 module _ (v : View) (n room : ℕ) (sane : sound v ≡ true) where
   abbrev turn : Turn View Reply
@@ -66,8 +67,7 @@ event-written v name active e queue n q a s =
     ∙ ap (λ (x : Entry). written (speakComplete name (x .id) n)) (sym (a ∙ ap first q))
 
 -- the others go on
-pub next-active : (v next : View) (e : Entry) (queue : List Entry) → v .queue ≡ e ∷ queue → length (v .queue) ≤ 16
-    → (1 ≤ length (v .queue) → length (v .queue) ≤ 16 → next ≡ (let rest = drop 1 (v .queue) in withQueue (whileAny Speaking rest) rest v))
-    → next ≡ withQueue (whileAny Speaking queue) queue v
-next-active v next e queue q few h =
-    h (rw q (omega arith)) few ∙ ap (λ (l : List Entry). withQueue (whileAny Speaking (drop 1 l)) (drop 1 l) v) q
+pub next-active : (queue : List Entry) (e : Entry) (rest : List Entry) (r : Ended) → queue ≡ e ∷ rest → length queue ≤ 16
+    → (length queue ≤ 16 → Ends 1 queue r) → listOf (r .queue) ≡ rest
+next-active queue e rest r q few h =
+    h few .left ∙ ap (λ (l : List Entry). marked false 1 0 l) q ∙ others-remain rest e (rw q at few)

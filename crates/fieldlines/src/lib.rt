@@ -1,12 +1,12 @@
 // One field line: document 01, "Fields". Whoever reads lines takes the table of byte classes once, and lends it.
 ghost use mathlib.Core.Path.{_≡_};
 ghost use mathlib.Core.Bool.{Bool};
-ghost use Prim.Native.Nat.{ℕ, _+_, _≤_};
-ghost use lib.ListN.{drop};
+ghost use Prim.Native.Nat.{ℕ, _+_, _-_, _≤_, _<_};
+ghost use lib.ListN.{length, getD, drop, take};
 ghost use Rattle.lists.specs.Lists.{run};
 ghost use Rattle.octets.specs.Octets.{classes, Stands};
-ghost use Rattle.message.specs.Fields.{fieldLine};
-ghost use Rattle.fieldlines.specs.Steps.{lineOf, ValueEnds};
+ghost use Rattle.message.specs.Fields.{trimEnd, fieldLine};
+ghost use Rattle.fieldlines.specs.Steps.{lineOf};
 
 // The places of a field's name and value in the frame.
 pub struct Field {
@@ -14,14 +14,31 @@ pub struct Field {
     pub value: message::Span,
 }
 
-// The end of the bytes of a class at `at`.
-fn class_end(f: &[u8], class: &[u8; 256], at: usize, kind: u8) -> usize
-    ensures { λ r. ⌜ (at ≤ r) × (now (class .entry) ≡ classes → (test : ℕ → Bool) → Stands kind test → r ≡ at + run test (drop at (now (f .entry)))) ⌝ }
+// The byte at `i` is of a class.
+fn is_of(f: &[u8], class: &[u8; 256], i: usize, kind: u8) -> bool
+    requires { ⌜ i < length (now f) ⌝ }
+    ensures { λ r. ⌜ (now (class .entry) ≡ classes → (test : ℕ → Bool) → Stands kind test
+        → r ≡ test (getD (now (f .entry)) i 0)) ⌝ }
+{
+    let b = f[i];
+    class[b as usize] & kind != 0
+}
+
+// Of `n` bytes, the place at which fewer than four are left.
+fn fours_end(n: usize) -> usize
+    ensures { λ r. ⌜ r ≡ n - 3 ⌝ }
+{
+    if n < 3 { 0 } else { n - 3 }
+}
+
+// The end of the bytes of a class at `at`, byte by byte.
+fn class_end_by_one(f: &[u8], class: &[u8; 256], at: usize, kind: u8) -> usize
+    ensures { λ r. ⌜ (at ≤ r) × (now (class .entry) ≡ classes → (test : ℕ → Bool) → Stands kind test
+        → r ≡ at + run test (drop at (now (f .entry)))) ⌝ }
 {
     let mut i = at;
     while i < f.len() {
-        let b = f[i];
-        if class[b as usize] & kind == 0 {
+        if !is_of(f, class, i, kind) {
             return i;
         }
         i += 1;
@@ -29,29 +46,45 @@ fn class_end(f: &[u8], class: &[u8; 256], at: usize, kind: u8) -> usize
     i
 }
 
-// The value bytes at a place: where they end, and the place past the last that is no blank.
-struct Value {
-    end: usize,
-    last: usize,
+// The same, four bytes at a time while there are so many.
+fn class_end(f: &[u8], class: &[u8; 256], at: usize, kind: u8) -> usize
+    ensures { λ r. ⌜ (at ≤ r) × (now (class .entry) ≡ classes → (test : ℕ → Bool) → Stands kind test
+        → r ≡ at + run test (drop at (now (f .entry)))) ⌝ }
+{
+    let last = fours_end(f.len());
+    let mut i = at;
+    while i < last {
+        if !is_of(f, class, i, kind) {
+            return i;
+        }
+        if !is_of(f, class, i + 1, kind) {
+            return i + 1;
+        }
+        if !is_of(f, class, i + 2, kind) {
+            return i + 2;
+        }
+        if !is_of(f, class, i + 3, kind) {
+            return i + 3;
+        }
+        i += 4;
+    }
+    class_end_by_one(f, class, i, kind)
 }
 
-fn value_end(f: &[u8], class: &[u8; 256], at: usize) -> Value
-    ensures { λ r. ⌜ (at ≤ r .last) × (now (class .entry) ≡ classes → ValueEnds at (drop at (now (f .entry))) r) ⌝ }
+// The end of the bytes from `at` to `end` without the blanks at their end.
+fn solid_end(f: &[u8], class: &[u8; 256], at: usize, end: usize) -> usize
+    requires { ⌜ (at ≤ end) × (end ≤ length (now f)) ⌝ }
+    ensures { λ r. ⌜ (at ≤ r) × (now (class .entry) ≡ classes
+        → r ≡ at + length (trimEnd (take (end - at) (drop at (now (f .entry)))))) ⌝ }
 {
-    let mut i = at;
-    let mut last = at;
-    while i < f.len() {
-        let b = f[i];
-        let kind = class[b as usize];
-        if kind & octets::VALUE == 0 {
-            return Value { end: i, last };
+    let mut e = end;
+    while at < e {
+        if !is_of(f, class, e - 1, octets::BLANK) {
+            return e;
         }
-        i += 1;
-        if kind & octets::BLANK == 0 {
-            last = i;
-        }
+        e -= 1;
     }
-    Value { end: i, last }
+    at
 }
 
 // What a line is, and where the next one begins.
@@ -78,9 +111,8 @@ pub fn field_line(f: &[u8], class: &[u8; 256], at: usize) -> Line
     if !readers::has(f, n, 58) {
         return Line::Malformed;
     }
-    let v = class_end(f, class, n + 1, octets::BLANK);
-    let w = value_end(f, class, v);
-    let end = w.end;
+    let v = class_end_by_one(f, class, n + 1, octets::BLANK);
+    let end = class_end(f, class, v, octets::VALUE);
     if !readers::crlf(f, end) {
         return Line::Malformed;
     }
@@ -88,9 +120,10 @@ pub fn field_line(f: &[u8], class: &[u8; 256], at: usize) -> Line
         start: at,
         len: n - at,
     };
+    let last = solid_end(f, class, v, end);
     let value = message::Span {
         start: v,
-        len: w.last - v,
+        len: last - v,
     };
     Line::Field(Field { name, value }, end + 2)
 }

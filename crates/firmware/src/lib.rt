@@ -6,7 +6,8 @@ ghost use Rattle.firmware.specs.Steps.{frameAs};
 
 #[no_mangle]
 pub extern "C" fn klarvesimo_frame(s: &[u8], out: &mut [u64]) -> u32
-    ensures { λ r. ⌜ record { number = r; out = now (out .exit) } ≡ frameFace (now (s .entry)) (now (out .entry)) ⌝ }
+    ensures { λ r. ⌜ record { number = r; out = now (out .exit) }
+        ≡ frameFace (now (s .entry)) (now (out .entry)) ⌝ }
 {
     let f = framing::frame(s);
     match f {
@@ -22,7 +23,8 @@ pub extern "C" fn klarvesimo_frame(s: &[u8], out: &mut [u64]) -> u32
 
 #[no_mangle]
 pub extern "C" fn klarvesimo_read(s: &[u8], out: &mut [u64], consumed: &mut [u64; 1]) -> u32
-    ensures { λ r. ⌜ record { number = r; consumed = now (consumed .exit); out = now (out .exit) } ≡ called (now (consumed .entry)) (readFace (now (s .entry)) (now (out .entry))) ⌝ }
+    ensures { λ r. ⌜ record { number = r; consumed = now (consumed .exit); out = now (out .exit) }
+        ≡ called (now (consumed .entry)) (readFace (now (s .entry)) (now (out .entry))) ⌝ }
 {
     consumed[0] = 0;
     let f = framing::frame(s);
@@ -47,7 +49,8 @@ struct Consumed {
 
 // A frame `f` whose opening has `k` bytes.
 fn read_frame(f: &[u8], k: usize, major: u64, minor: u64, out: &mut [u64]) -> Consumed
-    ensures { λ r. ⌜ record { number = r .number; consumed = r .consumed; out = now (out .exit) } ≡ frameAs (now (f .entry)) major minor (startLine k (now (f .entry))) (now (out .entry)) ⌝ }
+    ensures { λ r. ⌜ record { number = r .number; consumed = r .consumed; out = now (out .exit) }
+        ≡ frameAs (now (f .entry)) major minor (startLine k (now (f .entry))) (now (out .entry)) ⌝ }
 {
     let length = f.len() as u64;
     let line = startline::start_line(f, k);

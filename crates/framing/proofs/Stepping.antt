@@ -12,8 +12,9 @@ use Rattle.digits.specs.Steps.{scanned, oneTo19}
 use Rattle.readers.specs.declared.Place.{Place}
 use Rattle.digits.specs.declared.Scan.{Scan}
 use Rattle.framing.specs.Framing.{measured, framed}
-use Rattle.framing.specs.Steps.{textAfter, numberAfter, valueOf}
+use Rattle.framing.specs.Steps.{textAfter, numberAfter, valueOf, frontOf}
 use Rattle.framing.specs.declared.Opening.{Opening}
+use Rattle.framing.specs.declared.Front.{Front}
 use Rattle.framing.specs.declared.Framing.{Framing}
 use Rattle.framing.specs.declared.Framing.the-variants.{More, NoMessage}
 
@@ -82,17 +83,27 @@ module _ {A : Type 0} where
         go (Place.At at) = number-at at (oneTo19 max) q
 
 -- the answer by what the last step found
-abbrev pub framedAt : Place → Opening → ℕ → Framing
-framedAt Place.Short o lent = More
-framedAt Place.Wrong o lent = NoMessage
-framedAt (Place.At k) o lent = measured o k lent
+abbrev pub frontAt : Place → Opening → Front
+frontAt Place.Short o = Front.Short
+frontAt Place.Wrong o = Front.Wrong
+frontAt (Place.At k) o = Front.Got (o .major) (o .minor) (o .stated) k
 
-pub by-last : (s : List ℕ) (p : Place) (o : Opening) (lent : ℕ) → framed (behindText s p (done o)) lent ≡ framedAt p o lent
-by-last s Place.Short o lent = refl
-by-last s Place.Wrong o lent = refl
-by-last s (Place.At k) o lent = ap (λ k. measured o k lent) (add-zero k)
+pub by-last : (s : List ℕ) (p : Place) (o : Opening) → frontOf (behindText s p (done o)) ≡ frontAt p o
+by-last s Place.Short o = refl
+by-last s Place.Wrong o = refl
+by-last s (Place.At k) o = ap (λ k. Front.Got (o .major) (o .minor) (o .stated) k) (add-zero k)
 
 -- an opening by its three numbers
-pub measured-alike : (k lent : ℕ) {a b n a′ b′ n′ : ℕ} → a ≡ a′ → b ≡ b′ → n ≡ n′
-    → measured (record { major = a; minor = b; stated = n }) k lent ≡ measured (record { major = a′; minor = b′; stated = n′ }) k lent
-measured-alike k lent p q r = rw (p, q, r)
+pub front-alike : (k : ℕ) {a b n a′ b′ n′ : ℕ} → a ≡ a′ → b ≡ b′ → n ≡ n′ → Front.Got a b n k ≡ Front.Got a′ b′ n′ k
+front-alike k p q r = rw (p, q, r)
+
+-- and then the measure
+abbrev pub framedBy : Front → ℕ → Framing
+framedBy Front.Short lent = More
+framedBy Front.Wrong lent = NoMessage
+framedBy (Front.Got a b n k) lent = measured (record { major = a; minor = b; stated = n }) k lent
+
+pub by-front : (r : Read Opening) (lent : ℕ) → framedBy (frontOf r) lent ≡ framed r lent
+by-front short lent = refl
+by-front wrong lent = refl
+by-front (got o k) lent = refl

@@ -2,11 +2,13 @@
 use Prim.Native.Nat.{ℕ}
 use mathlib.Core.List.{List}
 use lib.ListN.{drop}
-use Rattle.readers.specs.Readers.{text, number}
+use Rattle.readers.specs.Readers.{Read, short, wrong, got, text, number}
 use Rattle.readers.specs.Steps.{placed}
 use Rattle.digits.specs.Steps.{scanned, oneTo19}
 use Rattle.readers.specs.declared.Place.{Place}
 use Rattle.digits.specs.declared.Scan.{Scan}
+use Rattle.framing.specs.declared.Opening.{Opening}
+use Rattle.framing.specs.declared.Front.{Front}
 
 -- a text behind a number
 abbrev pub textAfter : List ℕ → Scan → List ℕ → Place
@@ -25,3 +27,9 @@ abbrev pub valueOf : Scan → ℕ
 valueOf Scan.Short = 0
 valueOf Scan.Wrong = 0
 valueOf (Scan.Got v at) = v
+
+-- what was read of an opening, in the type of the code
+abbrev pub frontOf : Read Opening → Front
+frontOf short = Front.Short
+frontOf wrong = Front.Wrong
+frontOf (got o k) = Front.Got (o .major) (o .minor) (o .stated) k

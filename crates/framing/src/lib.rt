@@ -1,14 +1,22 @@
 // Cutting lent bytes into messages: document 01, "Framing".
 ghost use mathlib.Core.Path.{_≡_};
 ghost use lib.ListN.{take};
-ghost use Rattle.framing.specs.Framing.{framing, measured, frameLength};
-ghost use Rattle.framing.specs.Steps.{textAfter, numberAfter, valueOf};
+ghost use Rattle.framing.specs.Framing.{opening, framing, measured, frameLength};
+ghost use Rattle.framing.specs.Steps.{textAfter, numberAfter, valueOf, frontOf};
 
 // What an opening says: the version, and the length of the whole message.
 pub struct Opening {
     pub major: u64,
     pub minor: u64,
     pub stated: u64,
+}
+
+// What stands at the front of the lent bytes: a proper beginning of some opening, nothing that can become one, or an
+// opening: its version, the length that it states, and its own length.
+pub enum Front {
+    Short,
+    Wrong,
+    Got(u64, u64, u64, usize),
 }
 
 // Where the message at the front of the lent bytes ends; or why that is not known.
@@ -21,7 +29,8 @@ pub enum Framing {
     Frame(u64, u64, usize, usize),
 }
 
-// A text behind a number: a step that does nothing where the one before it found nothing, so that the steps need no branches between them.
+// A text behind a number: a step that does nothing where the one before it found nothing, so that the steps need no
+// branches between them.
 fn text_after(s: &[u8], n: digits::Scan, t: &[u8]) -> readers::Place
     ensures { λ r. ⌜ r ≡ textAfter (now (s .entry)) n (now (t .entry)) ⌝ }
 {
@@ -53,8 +62,27 @@ fn value(n: digits::Scan) -> u64
     }
 }
 
-// With an opening of `k` bytes, where `lent` bytes are there: 3, then 4, then 1. The numbers come singly: as a struct they would go through memory.
-fn measure(major: u64, minor: u64, stated: u64, k: usize, lent: usize) -> Framing
+// The opening at the front of `s`. It looks at 31 bytes at most.
+pub fn read_opening(s: &[u8]) -> Front
+    ensures { λ r. ⌜ r ≡ frontOf (opening (now (s .entry))) ⌝ }
+{
+    let mrcp = readers::text(s, 0, b"MRCP/");
+    let major = number_after(s, mrcp, 2);
+    let dot = text_after(s, major, b".");
+    let minor = number_after(s, dot, 2);
+    let space = text_after(s, minor, b" ");
+    let stated = number_after(s, space, 19);
+    let end = text_after(s, stated, b" ");
+    match end {
+        readers::Place::Short => Front::Short,
+        readers::Place::Wrong => Front::Wrong,
+        readers::Place::At(k) => Front::Got(value(major), value(minor), value(stated), k),
+    }
+}
+
+// With an opening of `k` bytes, where `lent` bytes are there: 3, then 4, then 1. The numbers come singly: as a struct
+// they would go through memory.
+pub fn measure(major: u64, minor: u64, stated: u64, k: usize, lent: usize) -> Framing
     ensures { λ r. ⌜ r ≡ measured (record { major = major; minor = minor; stated = stated }) k lent ⌝ }
 {
     if 16384 < stated {
@@ -70,21 +98,15 @@ fn measure(major: u64, minor: u64, stated: u64, k: usize, lent: usize) -> Framin
     Framing::Frame(major, minor, k, n)
 }
 
-// Where the message at the front of `s` ends. It looks at 31 bytes at most.
+// Where the message at the front of `s` ends.
 pub fn frame(s: &[u8]) -> Framing
     ensures { λ r. ⌜ r ≡ framing (now (s .entry)) ⌝ }
 {
-    let mrcp = readers::text(s, 0, b"MRCP/");
-    let major = number_after(s, mrcp, 2);
-    let dot = text_after(s, major, b".");
-    let minor = number_after(s, dot, 2);
-    let space = text_after(s, minor, b" ");
-    let stated = number_after(s, space, 19);
-    let end = text_after(s, stated, b" ");
-    match end {
-        readers::Place::Short => Framing::More,
-        readers::Place::Wrong => Framing::NoMessage,
-        readers::Place::At(k) => measure(value(major), value(minor), value(stated), k, s.len()),
+    let front = read_opening(s);
+    match front {
+        Front::Short => Framing::More,
+        Front::Wrong => Framing::NoMessage,
+        Front::Got(major, minor, stated, k) => measure(major, minor, stated, k, s.len()),
     }
 }
 

@@ -3,12 +3,10 @@
 use mathlib.Core.Path.{_≡_, refl, sym, ap, _∙_}
 use mathlib.Core.Bool.{Bool, true, false, _&&_}
 use mathlib.Core.List.{List, [], _∷_, _++_, map, append-nil}
-use Prim.Native.Nat.{ℕ, zero, suc, _+_, _-_, _<_}
+use Prim.Native.Nat.{ℕ, zero, suc, _-_, _<_}
 use native.Mathlib.Nat.{not-suc-le-zero}
-use native.Mathlib.Numerals.{add-one, sub-one}
-use native.Mathlib.Omega.{arith}
-use lib.ListN.{length, drop, take, set, replicate}
-use lib.Seq.{take-suc-set, drop-set-lt, drop-drop}
+use native.Mathlib.Numerals.{sub-one}
+use lib.ListN.{length, drop}
 use Rattle.message.specs.Message as M
 use Rattle.message.specs.Message.{Fields, bad, good, part, onField}
 use Rattle.message.specs.Fields.{Line, empty, field, Lines, lines, with, goOn, fieldLine, fieldLines}
@@ -17,38 +15,7 @@ use Rattle.message.specs.Reading.{agrees, judged}
 use Rattle.message.specs.declared.Span.{Span}
 use Rattle.message.specs.declared.Known.the-variants.{ContentLength}
 use Rattle.names.specs.Names.{namesIn}
-use Rattle.fieldlines.specs.Steps.{fieldOf}
-use Rattle.header.specs.Header.{noField}
-use Rattle.fieldlines.specs.declared.Field.{Field}
 use Rattle.names.proofs.Marks.{twice-never}
-use Rattle.header.proofs.Values.{asField}
-
--- the first n fields, as the definition has them
-abbrev pub gathered : ℕ → List Field → List (M.Field Span)
-gathered n fs = map asField (take n fs)
-
-pub as-were : (l : List Field) → map fieldOf (map asField l) ≡ l
-as-were [] = refl
-as-were (x ∷ l) = ap (λ t. x ∷ t) (as-were l)
-
-map-append : (a b : List Field) → map asField (a ++ b) ≡ map asField a ++ map asField b
-map-append [] b = refl
-map-append (x ∷ a) b = ap (λ t. asField x ∷ t) (map-append a b)
-
--- a field stored behind the first n
-pub gathered-more : (n : ℕ) (fs : List Field) (x : Field) → n < length fs → gathered (n + 1) (set fs n x) ≡ gathered n fs ++ asField x ∷ []
-gathered-more n fs x h = rw add-one (ap (map asField) (take-suc-set fs n x h) ∙ map-append (take n fs) (x ∷ []))
-
-drop-replicate : (n : ℕ) → drop 1 (replicate n noField) ≡ replicate (n - 1) noField
-drop-replicate zero = refl
-drop-replicate (suc n) = rw sub-one
-
-pub blank-more : (n : ℕ) (fs : List Field) (x : Field) → n < 32 → drop n fs ≡ replicate (32 - n) noField
-    → drop (n + 1) (set fs n x) ≡ replicate (32 - (n + 1)) noField
-blank-more n fs x h e =
-    let p : 32 - n - 1 ≡ 32 - (n + 1) = omega arith in
-    let q : n < n + 1 = omega arith in
-    drop-set-lt (n + 1) fs n x q ∙ sym (drop-drop 1 n fs) ∙ ap (drop 1) e ∙ drop-replicate (32 - n) ∙ ap (λ m. replicate m noField) p
 
 -- fields in front of the lines that are left
 abbrev pub front : List (M.Field Span) → Lines → Lines
@@ -69,21 +36,26 @@ front-last (y ∷ fs) x r = ap (with y) (front-last fs x r)
 
 -- the lines from i on, by what the line there is; fs came before them
 module _ (s : List ℕ) (i : ℕ) where
-  going : (n : ℕ) (l : Line) → fieldLine i (drop i s) ≡ l → (t : Lines) → ((more : ℕ → Lines) → goOn l more ≡ t) → fieldLines n s i ≡ t
+  going : (n : ℕ) (l : Line) → fieldLine i (drop i s) ≡ l → (t : Lines) → ((more : ℕ → Lines) → goOn l more ≡ t)
+      → fieldLines n s i ≡ t
   going zero l q t f = ap (λ l. goOn l (λ _. Lines.malformed)) q ∙ f (λ _. Lines.malformed)
   going (suc n) l q t f = ap (λ l. goOn l (fieldLines n s)) q ∙ f (fieldLines n s)
 
-  pub lines-malformed : (fs : List (M.Field Span)) (n : ℕ) → fieldLine i (drop i s) ≡ Line.malformed → front fs (fieldLines n s i) ≡ Lines.malformed
+  pub lines-malformed : (fs : List (M.Field Span)) (n : ℕ) → fieldLine i (drop i s) ≡ Line.malformed
+      → front fs (fieldLines n s i) ≡ Lines.malformed
   lines-malformed fs n q = ap (front fs) (going n Line.malformed q Lines.malformed (λ more. refl)) ∙ front-malformed fs
 
-  pub lines-empty : (fs : List (M.Field Span)) (n b : ℕ) → fieldLine i (drop i s) ≡ empty b → front fs (fieldLines n s i) ≡ lines fs b
+  pub lines-empty : (fs : List (M.Field Span)) (n b : ℕ) → fieldLine i (drop i s) ≡ empty b
+      → front fs (fieldLines n s i) ≡ lines fs b
   lines-empty fs n b q =
-      ap (front fs) (going n (empty b) q (lines [] b) (λ more. refl)) ∙ front-lines fs [] b ∙ ap (λ t. lines t b) (append-nil fs)
+      ap (front fs) (going n (empty b) q (lines [] b) (λ more. refl)) ∙ front-lines fs [] b
+      ∙ ap (λ t. lines t b) (append-nil fs)
 
   module _ (x : M.Field Span) (next : ℕ) (q : fieldLine i (drop i s) ≡ field x next) (fs : List (M.Field Span)) where
     pub lines-full : (n : ℕ) → n ≡ 0 → front fs (fieldLines n s i) ≡ Lines.malformed
     lines-full n z =
-        ap (λ n. front fs (fieldLines n s i)) z ∙ ap (front fs) (ap (λ l. goOn l (λ _. Lines.malformed)) q) ∙ front-malformed fs
+        ap (λ n. front fs (fieldLines n s i)) z ∙ ap (front fs) (ap (λ l. goOn l (λ _. Lines.malformed)) q)
+        ∙ front-malformed fs
 
     pub lines-field : (n : ℕ) → 0 < n → front fs (fieldLines n s i) ≡ front fs (with x (fieldLines (n - 1) s next))
     lines-field zero l = absurd (not-suc-le-zero l)
@@ -94,7 +66,8 @@ module _ (s : List ℕ) (i : ℕ) where
 
 -- the judgement of lines
 module _ (f : List ℕ) where
-  pub names-append : (fs : List (M.Field Span)) (x : M.Field Span) (gs : List (M.Field Span)) → namesIn f (fs ++ x ∷ gs) ≡ namesIn f fs ++ knownOf (part f (x .name)) ∷ namesIn f gs
+  pub names-append : (fs : List (M.Field Span)) (x : M.Field Span) (gs : List (M.Field Span))
+      → namesIn f (fs ++ x ∷ gs) ≡ namesIn f fs ++ knownOf (part f (x .name)) ∷ namesIn f gs
   names-append [] x gs = refl
   names-append (y ∷ fs) x gs = ap (λ t. knownOf (part f (y .name)) ∷ t) (names-append fs x gs)
 
@@ -103,7 +76,8 @@ module _ (f : List ℕ) where
   names-length (x ∷ fs) = ap suc (names-length fs)
 
   -- a known name that came twice is bad, whatever the later lines are
-  pub judged-twice : (fs : List (M.Field Span)) (x : M.Field Span) → (isKnown (knownOf (part f (x .name))) && among (knownOf (part f (x .name))) (namesIn f fs)) ≡ true
+  pub judged-twice : (fs : List (M.Field Span)) (x : M.Field Span)
+      → (isKnown (knownOf (part f (x .name))) && among (knownOf (part f (x .name))) (namesIn f fs)) ≡ true
       → (r : Lines) → judged f (front fs (with x r)) ≡ bad
   judged-twice fs x h Lines.malformed = ap (judged f) (front-malformed fs)
   judged-twice fs x h (lines gs b) =
@@ -114,5 +88,7 @@ module _ (f : List ℕ) where
     abbrev choice : Bool → Fields Span
     choice t = elim t [ true ↦ good fs (record { start = b; len = length f - b }) | false ↦ bad ]
 
-    pub judged-by : (t : Bool) → agrees (valueOf ContentLength (map (onField (part f)) fs)) (length f - b) ≡ t → judged f (lines fs b) ≡ choice t
-    judged-by t e = ap (λ z. choice (z && agrees (valueOf ContentLength (map (onField (part f)) fs)) (length f - b))) o ∙ ap choice e
+    pub judged-by : (t : Bool) → agrees (valueOf ContentLength (map (onField (part f)) fs)) (length f - b) ≡ t
+        → judged f (lines fs b) ≡ choice t
+    judged-by t e = ap (λ z. choice (z && agrees (valueOf ContentLength (map (onField (part f)) fs)) (length f - b))) o
+        ∙ ap choice e

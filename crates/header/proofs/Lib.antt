@@ -1,5 +1,7 @@
 pub mod Numerals
 pub mod Values
+pub mod Four
+pub mod Places
 pub mod Gathering
 pub mod Stepping
 pub mod Onward

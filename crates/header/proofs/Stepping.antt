@@ -1,20 +1,21 @@
 -- A line judged on the way: what the code's cases say of the definition's line, and the other way round.
 -- Assumes nothing.
-use mathlib.Core.Path.{_≡_, refl, sym, ap, _∙_}
+use mathlib.Core.Path.{_≡_, refl, sym, ap, subst, _∙_}
 use mathlib.Core.Bool.{Bool, true, false}
 use mathlib.Core.List.{List}
-use Prim.Native.Nat.{ℕ}
+use Prim.Native.Nat.{ℕ, _+_, _≤_}
 use native.Mathlib.Omega.{arith}
+use lib.ListN.{length, drop}
 use Rattle.message.specs.Message as M
 use Rattle.message.specs.Message.{part}
 use Rattle.message.specs.Fields as F
-use Rattle.message.specs.Fields.{empty, field}
+use Rattle.message.specs.Fields.{empty, field, fieldLine}
 use Rattle.message.specs.Known.{knownOf}
 use Rattle.message.specs.declared.Span.{Span}
 use Rattle.message.specs.declared.Known.{Known}
-use Rattle.fieldlines.specs.Steps.{fieldOf}
+use Rattle.message.proofs.Rows.{Row, field-line}
 use Rattle.names.specs.Steps.{mayCome}
-use Rattle.fieldlines.specs.Steps.{lineOf}
+use Rattle.fieldlines.specs.Steps.{fieldOf, lineOf}
 use Rattle.header.specs.Steps.{stepOf}
 use Rattle.fieldlines.specs.declared.Field.{Field}
 use Rattle.fieldlines.specs.declared.Line.{Line}
@@ -34,7 +35,16 @@ told-empty (field x m) n e = let d : _≡_ {A = ℕ} 0 1 = cc in absurd (omega a
 told-field : (l : F.Line) (x : Field) (n : ℕ) → lineOf l ≡ Line.Field x n → l ≡ field (asField x) n
 told-field F.Line.malformed x n e = let d : _≡_ {A = ℕ} 0 1 = cc in absurd (omega arith)
 told-field (empty m) x n e = let d : _≡_ {A = ℕ} 0 1 = cc in absurd (omega arith)
-told-field (field y m) x n e = let q : m ≡ n = cc in let p : fieldOf y ≡ x = cc in ap (field y) q ∙ ap (λ z. field (asField z) n) p
+told-field (field y m) x n e = let q : m ≡ n = cc in let p : fieldOf y ≡ x = cc in ap (field y) q
+    ∙ ap (λ z. field (asField z) n) p
+
+-- the name of a line that is a field lies in the frame
+pub name-inside : (f : List ℕ) (at : ℕ) (r : Line) → r ≡ lineOf (fieldLine at (drop at f)) → (x : Field) (next : ℕ)
+    → r ≡ Line.Field x next
+    → x .name .start + x .name .len ≤ length f
+name-inside f at r e x next h =
+    let row = subst (Row at (length f)) (told-field (fieldLine at (drop at f)) x next (sym e ∙ h)) (field-line at f) in
+    omega (arith, row .0, row .1)
 
 module _ (n mask : ℕ) (f : List ℕ) (l : F.Line) where
   -- what a step is, by the line r that the code found
@@ -45,7 +55,8 @@ module _ (n mask : ℕ) (f : List ℕ) (l : F.Line) where
     pub step-empty : (b : ℕ) → r ≡ Line.Empty b → Step.End b ≡ stepOf n mask f l
     step-empty b h = sym (ap (stepOf n mask f) (told-empty l b (sym e ∙ h)))
 
-    pub step-field : (x : Field) (next : ℕ) → r ≡ Line.Field x next → (k : Known) → k ≡ knownOf (part f (x .name)) → (t : Bool) → t ≡ mayCome n mask k
+    pub step-field : (x : Field) (next : ℕ) → r ≡ Line.Field x next → (k : Known) → k ≡ knownOf (part f (x .name))
+        → (t : Bool) → t ≡ mayCome n mask k
         → elim t [ true ↦ Step.Field x k next | false ↦ Step.Bad ] ≡ stepOf n mask f l
     step-field x next h k ek t et =
         ap {B = Step} (λ t. elim t [ true ↦ Step.Field x k next | false ↦ Step.Bad ]) et
@@ -72,12 +83,14 @@ module _ (n mask : ℕ) (f : List ℕ) where
     pub with-name : k ≡ knownOf (part f (x .name))
     pub may : true ≡ mayCome n mask k
 
-  pub line-field : (l : F.Line) (x : Field) (k : Known) (next : ℕ) → stepOf n mask f l ≡ Step.Field x k next → Comes l x k next
+  pub line-field : (l : F.Line) (x : Field) (k : Known) (next : ℕ) → stepOf n mask f l ≡ Step.Field x k next
+      → Comes l x k next
   line-field F.Line.malformed x k next e = let d : _≡_ {A = ℕ} 0 1 = cc in absurd (omega arith)
   line-field (empty m) x k next e = let d : _≡_ {A = ℕ} 0 1 = cc in absurd (omega arith)
   line-field (field y m) x k next e = go (mayCome n mask (knownOf (part f (y .name)))) refl e
     where
-      go : (t : Bool) → mayCome n mask (knownOf (part f (y .name))) ≡ t → judgedStep y m t ≡ Step.Field x k next → Comes (field y m) x k next
+      go : (t : Bool) → mayCome n mask (knownOf (part f (y .name))) ≡ t → judgedStep y m t ≡ Step.Field x k next
+          → Comes (field y m) x k next
       go true q e =
           let p : fieldOf y ≡ x = cc in
           let name : knownOf (part f (y .name)) ≡ k = cc in

@@ -1,23 +1,29 @@
 // The fields of a frame and its body: document 01, "Fields" and judgement 2.
 ghost use mathlib.Core.Path.{_≡_};
-ghost use lib.ListN.{drop};
+ghost use Prim.Native.Nat.{_+_, _≤_, _<_};
+ghost use lib.ListN.{length, drop};
 ghost use Rattle.octets.specs.Octets.{classes};
 ghost use Rattle.message.specs.Message.{part as partOf};
 ghost use Rattle.message.specs.Fields.{fieldLine};
 ghost use Rattle.message.specs.Known.{knownOf};
 ghost use Rattle.message.specs.Reading.{fieldsFrom, agrees as agreesOf};
-ghost use Rattle.header.specs.Header.{headerOf};
-ghost use Rattle.header.specs.Steps.{badHeader, stepOf, statedOf, givenBy};
+ghost use Rattle.header.specs.Header.{headerOf, Kept};
+ghost use Rattle.header.specs.Steps.{badHeader, stepOf, statedOf, givenBy, keptAt};
 
-// What stands after the start line. Where judgement 2 passes it: the first `count` of `fields`, the names that came as bits of `mask`, the
-// number of the field that each of them is, and the body. Else all is zero.
+// A message has at most so many fields, and there is room for the values of so many known names.
+pub const MOST_FIELDS: usize = names::MOST_FIELDS;
+
+pub const MOST_NAMES: usize = 16;
+
+// What stands after the start line. Where judgement 2 passes it: how many fields there are, the names that came as bits
+// of `mask`, the body, and the place of each known name's value, by the name's number; of the other names, which have
+// one number, the last one's. Else all is zero.
 pub struct Header {
     pub good: bool,
     pub count: usize,
     pub mask: u16,
     pub body: message::Span,
-    pub which: [usize; 16],
-    pub fields: [fieldlines::Field; 32],
+    pub values: [message::Span; MOST_NAMES],
 }
 
 // What a Content-Length says: a number of 1 to 19 digits, or none.
@@ -41,15 +47,14 @@ fn number(v: &[u8]) -> Stated
     Stated::Number(d.value)
 }
 
-// Content-Length, which is the field `x` where its bit is set, agrees with the `left` bytes of the body.
-fn agrees(f: &[u8], mask: u16, x: fieldlines::Field, left: usize) -> bool
-    ensures { λ r. ⌜ r ≡ agreesOf (givenBy mask 2 (partOf (now (f .entry)) (x .value))) left ⌝ }
+// Content-Length, whose value is at `p` where its bit is set, agrees with the `left` bytes of the body.
+fn agrees(f: &[u8], mask: u16, p: message::Span, left: usize) -> bool
+    ensures { λ r. ⌜ r ≡ agreesOf (givenBy mask 2 (partOf (now (f .entry)) p)) left ⌝ }
 {
     if mask & names::CONTENT_LENGTH == 0 {
         return 0 == left;
     }
-    let value = x.value;
-    let n = number(message::part(f, value));
+    let n = number(message::part(f, p));
     match n {
         Stated::None => false,
         Stated::Number(x) => x == left as u64,
@@ -58,19 +63,16 @@ fn agrees(f: &[u8], mask: u16, x: fieldlines::Field, left: usize) -> bool
 
 // Which known name the field `x` has.
 fn known_of(f: &[u8], x: fieldlines::Field) -> message::Known
+    requires { ⌜ x .name .start + x .name .len ≤ length (now f) ⌝ }
     ensures { λ r. ⌜ r ≡ knownOf (partOf (now (f .entry)) (x .name)) ⌝ }
 {
     let name = x.name;
-    names::known(message::part(f, name))
+    let start = name.start;
+    let end = start + name.len;
+    names::known(&f[start..end])
 }
 
-// What stands behind the fields that came.
 const NOWHERE: message::Span = message::Span { start: 0, len: 0 };
-
-const NO_FIELD: fieldlines::Field = fieldlines::Field {
-    name: NOWHERE,
-    value: NOWHERE,
-};
 
 // The answer where judgement 2 fails.
 fn bad() -> Header
@@ -81,12 +83,12 @@ fn bad() -> Header
         count: 0,
         mask: 0,
         body: NOWHERE,
-        which: [0usize; 16],
-        fields: [NO_FIELD; 32],
+        values: [NOWHERE; MOST_NAMES],
     }
 }
 
-// The next line, judged after `count` fields with the known names in `mask`: a field with its name, or where the body begins.
+// The next line, judged after `count` fields with the known names in `mask`: a field with its name, or where the body
+// begins.
 enum Step {
     Bad,
     End(usize),
@@ -112,14 +114,31 @@ fn next_step(f: &[u8], class: &[u8; 256], at: usize, count: usize, mask: u16) ->
     }
 }
 
-// The fields of the frame `f` from `at` on, and the body after them, in one pass over the lines; the body is not looked at. Content-Length has
-// the number 1.
-pub fn read_header(f: &[u8], at: usize) -> Header
-    ensures { λ r. ⌜ r ≡ headerOf (now (f .entry)) (fieldsFrom (now (f .entry)) at) ⌝ }
+// The four numbers of the field `x`, which is the field `j`, where they fit.
+fn keep(places: &mut [u64], j: usize, x: fieldlines::Field)
+    requires { ⌜ j < 32 ⌝ }
+    ensures { λ _. ⌜ now (places .exit) ≡ keptAt j x (now (places .entry)) ⌝ }
+{
+    let at = 4 * j;
+    if places.len() < at + 4 {
+        return;
+    }
+    let name = x.name;
+    let value = x.value;
+    places[at] = name.start as u64;
+    places[at + 1] = name.len as u64;
+    places[at + 2] = value.start as u64;
+    places[at + 3] = value.len as u64;
+}
+
+// The fields of the frame `f` from `at` on, and the body after them, in one pass over the lines; the body is not looked
+// at. `places` gets the four numbers of each field, of as many as fit. Content-Length has the number 1.
+pub fn read_header(f: &[u8], at: usize, places: &mut [u64]) -> Header
+    ensures { λ r. ⌜ (r ≡ headerOf (now (f .entry)) (fieldsFrom (now (f .entry)) at))
+        × Kept (now (places .entry)) (fieldsFrom (now (f .entry)) at) (now (places .exit)) ⌝ }
 {
     let class = octets::table();
-    let mut fields = [NO_FIELD; 32];
-    let mut which = [0usize; 16];
+    let mut values = [NOWHERE; MOST_NAMES];
     let mut mask: u16 = 0;
     let mut count = 0;
     let mut i = at;
@@ -129,8 +148,7 @@ pub fn read_header(f: &[u8], at: usize) -> Header
             Step::Bad => return bad(),
             Step::End(start) => {
                 let len = f.len() - start;
-                let j = which[1];
-                if !agrees(f, mask, fields[j], len) {
+                if !agrees(f, mask, values[1], len) {
                     return bad();
                 }
                 return Header {
@@ -138,15 +156,15 @@ pub fn read_header(f: &[u8], at: usize) -> Header
                     count,
                     mask,
                     body: message::Span { start, len },
-                    which,
-                    fields,
+                    values,
                 };
             }
             Step::Field(field, k, next) => {
                 let place = names::index(k);
                 mask = mask | names::bit(k);
-                which[place] = count;
-                fields[count] = field;
+                let value = field.value;
+                values[place] = value;
+                keep(places, count, field);
                 count += 1;
                 i = next;
             }

@@ -1,6 +1,6 @@
 -- What judgements 1 to 5 come to, one law for each way out. Assumes nothing.
 use Prim.Native.Nat.{ℕ, _≤_}
-use mathlib.Core.Path.{_≡_, sym, ap, subst, _∙_}
+use mathlib.Core.Path.{_≡_, refl, sym, ap, _∙_}
 use mathlib.Core.Bool.{Bool, true, false, _&&_}
 use mathlib.Core.Option.{none, some}
 use mathlib.Core.List.{List}
@@ -16,12 +16,15 @@ use Rattle.synth.specs.Judgement.{Verdict, passes, fails, _then_, unless, versi
 use Rattle.synth.specs.States as S
 use Rattle.synth.specs.declared.Method.{Method}
 use Rattle.synth.specs.declared.LastId.the-variants.{Seen}
-use Rattle.outcomes.specs.Outcomes.{asked, Makes}
-use Rattle.outcomes.specs.declared.Outcome.{Outcome}
+use Rattle.header.specs.declared.Header.{Header}
+use Rattle.values.specs.Values.{givenOf}
+use Rattle.request.specs.Telling.{Tells, valueBy}
+use Rattle.outcomes.specs.Outcomes.{asked}
+use Rattle.judgement.specs.Judged.{fromFields}
 
 -- a name that fits its array is compared whole
-pub name-told : (v : View) (x : List ℕ) {b : Bool} → length (v .name) ≤ 44 → b ≡ (leb (length (v .name)) 44 && same (v .name) x) → b ≡ same (v .name) x
-name-told v x h e = e ∙ rw (le-leb (length (v .name)) 44 h)
+pub name-told : (v : View) (name x : List ℕ) {b : Bool} → v .name ≡ name → length name ≤ 44 → b ≡ (leb (length name) 44 && same name x) → same (v .name) x ≡ b
+name-told v name x n h e = rw n (sym (e ∙ rw (le-leb (length name) 44 h)))
 
 module _ (v : View) (major minor : ℕ) (m : Method) (id : ℕ) (fs : Fields (List ℕ)) where
   abbrev r : Request
@@ -29,7 +32,7 @@ module _ (v : View) (major minor : ℕ) (m : Method) (id : ℕ) (fs : Fields (Li
 
   -- 2 to 5
   abbrev pub rest : Verdict
-  rest = wellFormed r then addressed r then ours v r then above v r
+  rest = fromFields v r
 
   pub outdated : (eqb major 2 && eqb minor 0) ≡ false → S.judge v r ≡ S.failed v r 502
   unfolding S.judge early version unless _then_
@@ -65,14 +68,12 @@ module _ (v : View) (major minor : ℕ) (m : Method) (id : ℕ) (fs : Fields (Li
     unfolding ours above unless _then_
     ours-above e a = rw (← n, e, a)
 
+  pub address-told : (f : List ℕ) (h : Header) → Tells f h fs → givenOf f (valueBy h ChannelIdentifier) ≡ acting ChannelIdentifier r
+  unfolding acting
+  address-told f h w = w .value ChannelIdentifier refl
+
   pub early-fails : (status : ℕ) → fails status ≡ rest → S.afterEarly rest v r ≡ S.failed v r status
   early-fails status e = ap (λ (x : Verdict). S.afterEarly x v r) (sym e)
 
   pub early-passes : passes ≡ rest → S.afterEarly rest v r ≡ (let seen : View = withLast (Seen id) v in S.afterLate (late seen r) seen r)
   early-passes e = ap (λ (x : Verdict). S.afterEarly x v r) (sym e)
-
--- what is shown of the channel that has seen this id is shown of its view
-pub seen-makes : (v : View) (o : Outcome) (r : Request) {w : View} → w ≡ withLast (Seen (r .id)) v
-    → (length (w .queue) ≤ 16 → Makes (w .name) o (S.afterLate (late w r) w r)) → length (v .queue) ≤ 16
-    → Makes (v .name) o (let seen : View = withLast (Seen (r .id)) v in S.afterLate (late seen r) seen r)
-seen-makes v o r e h few = subst (λ (w : View). length (w .queue) ≤ 16 → Makes (w .name) o (S.afterLate (late w r) w r)) e h few

@@ -1,4 +1,5 @@
-// The order of judgement for a request: document 01, "The order of judgement for a request". Judgements 6 to 11 are those of each method.
+// The order of judgement for a request: document 01, "The order of judgement for a request". Judgements 6 to 11 are
+// those of each method.
 ghost use mathlib.Core.Path.{_≡_};
 ghost use mathlib.Core.Bool.{_&&_};
 ghost use mathlib.Core.Option.{some};
@@ -9,14 +10,21 @@ ghost use lib.ListN.{length};
 ghost use Rattle.message.specs.Message.{Fields, part, onFields};
 ghost use Rattle.message.specs.Reading.{fieldsFrom};
 ghost use Rattle.message.specs.declared.Known.the-variants.{ChannelIdentifier};
-ghost use Rattle.synth.specs.Request.{isGood, methodOf, acting};
-ghost use Rattle.synth.specs.Judgement.{_then_, wellFormed, addressed, ours, above};
+ghost use Rattle.synth.specs.Request.{methodOf, acting};
+ghost use Rattle.synth.specs.Judgement.{_then_, ours, above};
 ghost use Rattle.synth.specs.States.{afterEarly, judge as judged};
-ghost use Rattle.synth.specs.declared.Method.{Method};
+ghost use Rattle.channelnames.specs.Names.{nameOf};
+ghost use Rattle.queue.specs.Queue.{listOf};
 ghost use Rattle.channel.specs.Channel.{view};
-ghost use Rattle.values.specs.Values.{givenOf, verdictOf};
 ghost use Rattle.request.specs.Telling.{Tells};
-ghost use Rattle.outcomes.specs.Outcomes.{asked, Makes};
+ghost use Rattle.outcomes.specs.Outcomes.{asked};
+ghost use Rattle.judgement.specs.Judged.{fromFields, Gets, Judges};
+
+// What a request comes to, and the last id seen after it.
+pub struct Judged {
+    pub last: synth::LastId,
+    pub outcome: outcomes::Outcome,
+}
 
 // 1. The version is 2.0, as numbers.
 fn is_current(major: u64, minor: u64) -> bool
@@ -29,52 +37,74 @@ fn is_current(major: u64, minor: u64) -> bool
 }
 
 // 4 and 5, of the Channel-Identifier `v`: it is this channel's name, and the id is above the last one seen.
-fn for_us(c: channel::Channel, v: &[u8], id: u32) -> values::Verdict
-    ensures { λ o. ⌜ ((major minor : ℕ) (m : Method) (fs : Fields (List ℕ)) → (let r = asked major minor m id fs in length (view c .name) ≤ 44 → some (now (v .entry)) ≡ acting ChannelIdentifier r → verdictOf o ≡ (ours (view c) r then above (view c) r))) ⌝ }
+fn for_us(last: synth::LastId, name: channelnames::Name, v: &[u8], id: u32) -> values::Verdict
+    ensures { λ o. ⌜ (length (nameOf name) ≤ 44 → Gets (λ v r. ours v r then above v r) last name id
+        (λ r. some (now (v .entry)) ≡ acting ChannelIdentifier r) o) ⌝ }
 {
-    if !channel::has_name(c, v) {
+    if !channelnames::is_name(name, v) {
         return values::Verdict::Fails(answer::Status::no_such_channel());
     }
-    if !channel::is_above(c, id) {
+    if !channel::is_above(last, id) {
         return values::Verdict::Fails(answer::Status::out_of_order());
     }
     values::Verdict::Passes
 }
 
-// 2 to 5, of fields that are `good` or not, with the Channel-Identifier `name`.
-fn early(c: channel::Channel, f: &[u8], good: bool, name: values::Given, id: u32) -> values::Verdict
-    ensures { λ o. ⌜ ((major minor : ℕ) (m : Method) (fs : Fields (List ℕ)) → (let r = asked major minor m id fs in length (view c .name) ≤ 44 → good ≡ isGood fs → givenOf (now (f .entry)) name ≡ acting ChannelIdentifier r → verdictOf o ≡ (wellFormed r then addressed r then ours (view c) r then above (view c) r))) ⌝ }
+// 2 to 5, of the fields in the frame `f` that are those of the header `h`.
+fn early(
+    last: synth::LastId,
+    name: channelnames::Name,
+    f: &[u8],
+    h: header::Header,
+    id: u32,
+) -> values::Verdict
+    ensures { λ o. ⌜ (length (nameOf name) ≤ 44
+        → Gets fromFields last name id (λ r. Tells (now (f .entry)) h (r .fields)) o) ⌝ }
 {
-    if !good {
+    if !h.good {
         return values::Verdict::Fails(answer::Status::illegal_value());
     }
-    match name {
+    let given = request::value(h, message::Known::ChannelIdentifier);
+    match given {
         values::Given::Nothing => values::Verdict::Fails(answer::Status::field_missing()),
-        values::Given::At(p) => for_us(c, message::part(f, p), id),
+        values::Given::At(p) => for_us(last, name, message::part(f, p), id),
     }
 }
 
-// 2 to 11, of a request of whose fields in the frame `f` the facts `q` are told. Once 5 passes, the last id seen is this one.
+// 2 to 11. Once 5 passes, the last id seen is this one.
 fn judge_fields(
+    last: synth::LastId,
     c: channel::Channel,
     f: &[u8],
-    q: request::Facts,
+    h: header::Header,
     m: synth::Method,
     id: u32,
-) -> outcomes::Outcome
-    ensures { λ o. ⌜ ((major minor : ℕ) (fs : Fields (List ℕ)) → (let r = asked major minor m id fs in length (view c .name) ≤ 44 → length (view c .queue) ≤ 16 → Tells (now (f .entry)) q r → Makes (view c .name) o (afterEarly (wellFormed r then addressed r then ours (view c) r then above (view c) r) (view c) r))) ⌝ }
+) -> Judged
+    ensures { λ j. ⌜ (length (nameOf (c .name)) ≤ 44 → length (listOf (c .queue)) ≤ 16
+        → (major minor : ℕ) (fs : Fields (List ℕ)) → Tells (now (f .entry)) h fs → (let v = view last c in
+        let r = asked major minor m id fs in Judges v j (afterEarly (fromFields v r) v r))) ⌝ }
 {
-    let name = q.name;
-    let verdict = early(c, f, q.good, name, id);
+    let name = c.name;
+    let state = c.state;
+    let queue = c.queue;
+    let verdict = early(last, name, f, h, id);
     match verdict {
-        values::Verdict::Fails(status) => outcomes::failed(c, id, status),
-        values::Verdict::Passes => methods::act(channel::seen(c, id), f, q, m, id),
+        values::Verdict::Fails(status) => {
+            let outcome = outcomes::failed(state, queue, id, status);
+            Judged { last, outcome }
+        }
+        values::Verdict::Passes => {
+            let outcome = methods::act(state, queue, f, h, m, id);
+            let last = synth::LastId::Seen(id);
+            Judged { last, outcome }
+        }
     }
 }
 
-// 1 to 11, of the request `id` in the frame `f`, whose method stands at `name` and whose fields begin at `at`. Arrays hold a name of 44 bytes and
-// 16 outstanding, so of a channel with more, which is not sound, nothing is said.
+// 1 to 11, of the request `id` in the frame `f`, whose method stands at `name` and whose fields begin at `at`. Arrays
+// hold a name of 44 bytes and 16 outstanding, so of a channel with more, which is not sound, nothing is said.
 pub fn judge(
+    last: synth::LastId,
     c: channel::Channel,
     f: &[u8],
     at: usize,
@@ -82,13 +112,19 @@ pub fn judge(
     minor: u64,
     name: message::Span,
     id: u32,
-) -> outcomes::Outcome
-    ensures { λ o. ⌜ (length (view c .name) ≤ 44 → length (view c .queue) ≤ 16 → Makes (view c .name) o (judged (view c) (asked major minor (methodOf (part (now (f .entry)) name)) id (onFields (part (now (f .entry))) (fieldsFrom (now (f .entry)) at))))) ⌝ }
+) -> Judged
+    ensures { λ j. ⌜ (length (nameOf (c .name)) ≤ 44 → length (listOf (c .queue)) ≤ 16 → Judges (view last c) j
+        (judged (view last c) (asked major minor (methodOf (part (now (f .entry)) name)) id
+        (onFields (part (now (f .entry))) (fieldsFrom (now (f .entry)) at))))) ⌝ }
 {
     if !is_current(major, minor) {
-        return outcomes::failed(c, id, answer::Status::version_unsupported());
+        let state = c.state;
+        let queue = c.queue;
+        let status = answer::Status::version_unsupported();
+        let outcome = outcomes::failed(state, queue, id, status);
+        return Judged { last, outcome };
     }
     let m = methodnames::method(message::part(f, name));
-    let q = request::ask(f, at, m);
-    judge_fields(c, f, q, m, id)
+    let h = request::read(f, at);
+    judge_fields(last, c, f, h, m, id)
 }

@@ -8,7 +8,7 @@ use lib.ListN.{length, drop, set}
 use Rattle.ledger.specs.Ledger.{Turn}
 use Rattle.synth.specs.Channel.{View, held, sound}
 use Rattle.synth.specs.Calls.{Lent, Reply, call, openChannel}
-use Rattle.words.specs.Words.{numbersOf, viewOf}
+use Rattle.channelnumbers.specs.Numbers.{numbersOf, viewOf}
 
 -- an opening's number, and the channel's numbers
 pub record OpenFace : Type 0 where
@@ -57,7 +57,12 @@ pub record HandleCall : Type 0 where
   pub out : List ℕ
 
 abbrev pub counted : List ℕ → CallFace → HandleCall
-counted counts f = record { number = f .number; channel = f .channel; counts = set (set counts 0 (f .consumed)) 1 (f .written); out = f .out }
+counted counts f = record {
+  number = f .number;
+  channel = f .channel;
+  counts = set (set counts 0 (f .consumed)) 1 (f .written);
+  out = f .out;
+}
 
 -- and with a place for the count written alone
 pub record ReportCall : Type 0 where
@@ -66,8 +71,13 @@ pub record ReportCall : Type 0 where
   pub written : List ℕ
   pub out : List ℕ
 
-abbrev pub told : List ℕ → CallFace → ReportCall
-told written f = record { number = f .number; channel = f .channel; written = set written 0 (f .written); out = f .out }
+abbrev pub reported : List ℕ → CallFace → ReportCall
+reported written f = record {
+  number = f .number;
+  channel = f .channel;
+  written = set written 0 (f .written);
+  out = f .out;
+}
 
 -- the number, how many ids are held, and the lent numbers with the ids at their front
 pub record HeldFace : Type 0 where
@@ -84,7 +94,10 @@ fitting ids out = elim (ltb (length out) (length ids)) [
 
 abbrev pub heldOn : Option View → List ℕ → HeldFace
 heldOn none out = record { number = 21; count = 0; ids = out }
-heldOn (some v) out = elim (sound v) [ true ↦ fitting (held v) out | false ↦ record { number = 21; count = 0; ids = out } ]
+heldOn (some v) out = elim (sound v) [
+  | true ↦ fitting (held v) out
+  | false ↦ record { number = 21; count = 0; ids = out }
+]
 
 unfoldable pub heldFace : List ℕ → List ℕ → HeldFace
 heldFace ws out = heldOn (viewOf ws) out

@@ -1,10 +1,11 @@
-// The C face of a channel, kept by the caller as 64 numbers. include/klarvesimo.h is its manual; framing and reading alone are in `firmware`.
+// The C face of a channel, kept by the caller as 64 numbers. include/klarvesimo.h is its manual; framing and reading
+// alone are in `firmware`.
 ghost use mathlib.Core.Path.{_≡_};
 ghost use mathlib.Core.List.{_++_};
 ghost use Prim.Native.Nat.{_≤_};
 ghost use lib.ListN.{length, take, drop};
 ghost use Rattle.synth.specs.Calls.{input, cause as causeOf};
-ghost use Rattle.klarvesimo.specs.Face.{openFace, callFace, counted, told, heldFace, listed};
+ghost use Rattle.klarvesimo.specs.Face.{openFace, callFace, counted, reported, heldFace, listed};
 
 #[no_mangle]
 pub extern "C" fn klarvesimo_open(channel: &mut [u64; 64], name: &[u8]) -> u32
@@ -12,7 +13,7 @@ pub extern "C" fn klarvesimo_open(channel: &mut [u64; 64], name: &[u8]) -> u32
 {
     let o = channel::open_channel(name);
     let c = o.channel;
-    *channel = words::save(c);
+    channelnumbers::save(synth::LastId::NoneSeen, c, channel);
     o.number
 }
 
@@ -24,24 +25,23 @@ pub extern "C" fn klarvesimo_handle(
     out: &mut [u8],
     counts: &mut [u64; 2],
 ) -> u32
-    ensures { λ r. ⌜ record { number = r; channel = now (channel .exit); counts = now (counts .exit); out = now (out .exit) } ≡ counted (now (counts .entry)) (callFace (now (channel .entry)) (input (now (s .entry))) (now (out .entry))) ⌝ }
+    ensures { λ r. ⌜
+        record { number = r; channel = now (channel .exit); counts = now (counts .exit); out = now (out .exit) }
+        ≡ counted (now (counts .entry))
+        (callFace (now (channel .entry)) (input (now (s .entry))) (now (out .entry))) ⌝ }
 {
-    counts[0] = 0;
-    counts[1] = 0;
-    let ws = *channel;
-    let l = loading::load(&ws);
-    if !l.fits {
-        return 21;
-    }
+    let l = loading::load(channel);
+    let last = l.last;
     let c = l.channel;
-    let r = client::handle(c, s, out);
+    let r = client::handle(last, c, s, out);
     counts[0] = r.consumed as u64;
     counts[1] = r.written as u64;
     if r.number != 0 {
         return r.number;
     }
+    let seen = r.last;
     let next = r.channel;
-    *channel = words::save(next);
+    channelnumbers::save(seen, next, channel);
     0
 }
 
@@ -53,27 +53,26 @@ pub extern "C" fn klarvesimo_report(
     out: &mut [u8],
     written: &mut [u64; 1],
 ) -> u32
-    ensures { λ r. ⌜ record { number = r; channel = now (channel .exit); written = now (written .exit); out = now (out .exit) } ≡ told (now (written .entry)) (callFace (now (channel .entry)) (causeOf cause) (now (out .entry))) ⌝ }
+    ensures { λ r. ⌜
+        record { number = r; channel = now (channel .exit); written = now (written .exit); out = now (out .exit) }
+        ≡ reported (now (written .entry)) (callFace (now (channel .entry)) (causeOf cause) (now (out .entry))) ⌝ }
 {
-    written[0] = 0;
-    let ws = *channel;
-    let l = loading::load(&ws);
-    if !l.fits {
-        return 21;
-    }
+    let l = loading::load(channel);
+    let last = l.last;
     let c = l.channel;
-    let e = engine::report(c, cause, out);
-    written[0] = e.written as u64;
-    if e.number != 0 {
-        return e.number;
+    let r = engine::report(last, c, cause, out);
+    written[0] = r.written as u64;
+    if r.number != 0 {
+        return r.number;
     }
-    let after = e.channel;
-    *channel = words::save(after);
+    let seen = r.last;
+    let after = r.channel;
+    channelnumbers::save(seen, after, channel);
     0
 }
 
 // The first `n` of `ids` at the front of `out`.
-fn put_ids(out: &mut [u64], ids: [u32; 16], n: usize)
+fn put_ids(out: &mut [u64], ids: [u32; queue::MOST], n: usize)
     requires { ⌜ n ≤ 16 ⌝ }
     requires { ⌜ n ≤ length (now out) ⌝ }
     ensures { λ _. ⌜ now (out .exit) ≡ take n ids ++ drop n (now (out .entry)) ⌝ }
@@ -88,18 +87,18 @@ fn put_ids(out: &mut [u64], ids: [u32; 16], n: usize)
 // The ids that the channel holds.
 #[no_mangle]
 pub extern "C" fn klarvesimo_held(channel: &[u64; 64], ids: &mut [u64], count: &mut [u64; 1]) -> u32
-    ensures { λ r. ⌜ record { number = r; count = now (count .exit); ids = now (ids .exit) } ≡ listed (now (count .entry)) (heldFace (now (channel .entry)) (now (ids .entry))) ⌝ }
+    ensures { λ r. ⌜ record { number = r; count = now (count .exit); ids = now (ids .exit) }
+        ≡ listed (now (count .entry)) (heldFace (now (channel .entry)) (now (ids .entry))) ⌝ }
 {
     count[0] = 0;
     let l = loading::load(channel);
-    if !l.fits {
-        return 21;
-    }
+    let last = l.last;
     let c = l.channel;
-    if !channel::is_sound(c) {
+    if !channel::is_sound(last, c) {
         return 21;
     }
-    let held = queue::list_held(c);
+    let q = c.queue;
+    let held = queue::list_held(q);
     let n = held.count;
     if ids.len() < n {
         return 7;

@@ -5,24 +5,24 @@ use mathlib.Core.Bool.{true}
 use mathlib.Core.List.{List, [], _∷_, _++_, append-nil, append-assoc}
 use Rattle.lists.specs.Lists.{elem}
 use Rattle.lists.proofs.Dealing.{split-elem}
-use Rattle.ledger.specs.Ledger.{Seen, accepted, closed, Run, ended, called, Turn, after, trace}
+use Rattle.ledger.specs.Ledger.{Exchange, accepted, closed, Run, ended, called, Turn, after, trace}
 use Rattle.ledger.proofs.Effects.{Effect, Holds, held-open, holds-step}
 
 module _ {C R : Type 0} (accepts closes : C → R → List ℕ) where
   -- each call closes only ids of acc and of those that the calls before it accepted
-  abbrev pub Prior : List ℕ → List (Seen C R) → Type 0
+  abbrev pub Prior : List ℕ → List (Exchange C R) → Type 0
   Prior acc [] = Unit {0}
   Prior acc (x ∷ xs) =
       ((id : ℕ) → elem id (closes (x .call) (x .reply)) ≡ true → elem id acc ≡ true) × Prior (acc ++ accepts (x .call) (x .reply)) xs
 
-  pub prior-cut : (acc : List ℕ) (before : List (Seen C R)) (x : Seen C R) (rest : List (Seen C R)) → Prior acc (before ++ x ∷ rest)
+  pub prior-cut : (acc : List ℕ) (before : List (Exchange C R)) (x : Exchange C R) (rest : List (Exchange C R)) → Prior acc (before ++ x ∷ rest)
       → (id : ℕ) → elem id (closes (x .call) (x .reply)) ≡ true → elem id (acc ++ accepted accepts closes before) ≡ true
   prior-cut acc [] x rest p id m = rw append-nil (p .0 id m)
   prior-cut acc (y ∷ before) x rest p id m = rw append-assoc at (prior-cut (acc ++ accepts (y .call) (y .reply)) before x rest (p .1) id m)
 
   module _ {S : Type 0} (Gives : S → C → R → S → Type 0) (held : S → List ℕ) (bound : S → ℕ)
       (effect : (s : S) (c : C) (r : R) (s′ : S) → Gives s c r s′ → Effect (held s) (bound s) (accepts c r) (closes c r) (held s′) (bound s′)) where
-    pub holds-run : {s s′ : S} {xs : List (Seen C R)} → Run Gives s xs s′ → (acc clo : List ℕ) → Holds acc clo (held s) (bound s)
+    pub holds-run : {s s′ : S} {xs : List (Exchange C R)} → Run Gives s xs s′ → (acc clo : List ℕ) → Holds acc clo (held s) (bound s)
         → Prior acc xs × Holds (acc ++ accepted accepts closes xs) (clo ++ closed accepts closes xs) (held s′) (bound s′)
     holds-run ended acc clo h = (tt, rw (append-nil acc, append-nil clo) h)
     holds-run (called {s = s} {s′ = t} {c = c} {r = r} g u) acc clo h =

@@ -7,33 +7,33 @@ use mathlib.Core.List.{List, [], _∷_, _++_}
 use Rattle.lists.specs.Lists.{elem, minus, Distinct}
 
 -- a call as it is seen from outside: what was handed in, and what came back
-pub record Seen (C R : Type 0) : Type 0 where
+pub record Exchange (C R : Type 0) : Type 0 where
   pub call : C
   pub reply : R
 
 -- `accepts` and `closes` are the ids that one call puts at the end of the two lists, read from what is seen of it
 module _ {C R : Type 0} (accepts closes : C → R → List ℕ) where
-  abbrev pub accepted : List (Seen C R) → List ℕ
+  abbrev pub accepted : List (Exchange C R) → List ℕ
   accepted [] = []
   accepted (x ∷ xs) = accepts (x .call) (x .reply) ++ accepted xs
 
-  abbrev pub closed : List (Seen C R) → List ℕ
+  abbrev pub closed : List (Exchange C R) → List ℕ
   closed [] = []
   closed (x ∷ xs) = closes (x .call) (x .reply) ++ closed xs
 
   -- No id is accepted twice, none closed twice, none closed before it was accepted; and those accepted and not closed are, in order of
   -- acceptance, exactly the ones held.
-  pub record Balanced (xs : List (Seen C R)) (held : List ℕ) : Type 0 where
+  pub record Balanced (xs : List (Exchange C R)) (held : List ℕ) : Type 0 where
     pub accepted-once : Distinct (accepted xs)
     pub closed-once : Distinct (closed xs)
-    pub accepted-before : (before : List (Seen C R)) (x : Seen C R) (rest : List (Seen C R)) → xs ≡ before ++ x ∷ rest
+    pub accepted-before : (before : List (Exchange C R)) (x : Exchange C R) (rest : List (Exchange C R)) → xs ≡ before ++ x ∷ rest
         → (id : ℕ) → elem id (closes (x .call) (x .reply)) ≡ true → elem id (accepted before) ≡ true
     pub open-held : minus (accepted xs) (closed xs) ≡ held
 
 -- A run: each call gets the state that the last one left. `Gives s c r s′` says that the call c in state s may reply r and leave s′.
-pub data Run {S C R : Type 0} (Gives : S → C → R → S → Type 0) : S → List (Seen C R) → S → Type 0 where
+pub data Run {S C R : Type 0} (Gives : S → C → R → S → Type 0) : S → List (Exchange C R) → S → Type 0 where
   ended : {s : S} → Run Gives s [] s
-  called : {s s′ s″ : S} {c : C} {r : R} {xs : List (Seen C R)} → Gives s c r s′ → Run Gives s′ xs s″
+  called : {s s′ s″ : S} {c : C} {r : R} {xs : List (Exchange C R)} → Gives s c r s′ → Run Gives s′ xs s″
       → Run Gives s (record { call = c; reply = r } ∷ xs) s″
 
 -- what a call gives where it is a function
@@ -48,6 +48,6 @@ module _ {S C R : Type 0} (step : S → C → Turn S R) where
   after s (c ∷ cs) = after (step s c .next) cs
 
   -- the calls with their replies
-  abbrev pub trace : S → List C → List (Seen C R)
+  abbrev pub trace : S → List C → List (Exchange C R)
   trace s [] = []
   trace s (c ∷ cs) = record { call = c; reply = step s c .reply } ∷ trace (step s c .next) cs

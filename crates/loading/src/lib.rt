@@ -1,83 +1,46 @@
-// A channel loaded from the 64 numbers that a C caller keeps, whatever they are. include/klarvesimo.h is the manual of their places.
+// A channel loaded from the 64 numbers that a C caller keeps, whatever they are. include/klarvesimo.h is the manual of
+// their places. Numbers that no sound channel has become a queue of 17 or a name of 45 bytes, so a channel that is not
+// sound: there is no flag to look at.
 ghost use mathlib.Core.Path.{_≡_};
-ghost use mathlib.Core.Bool.{true, false, _&&_};
 ghost use mathlib.Core.Option.{some};
 ghost use mathlib.Core.List.{map};
-ghost use Prim.Native.Nat.{_≤_};
-ghost use lib.ListN.{take, getD};
-ghost use Rattle.lists.specs.Lists.{all};
-ghost use Rattle.channel.specs.Channel.{view};
-ghost use Rattle.words.specs.Words.{stateAt, lastAt, entryAt, numbersAt, isEntry, isByte, viewOf};
+ghost use Prim.Native.Nat.{_/_, _≤_, _<_};
+ghost use lib.ListN.{getD};
+ghost use Rattle.queue.specs.Queue.{listOf};
+ghost use Rattle.channelnames.specs.Names.{nameOf};
+ghost use Rattle.channelnumbers.specs.Numbers.{stateAt, lastAt, entryAt, numbersAt};
 ghost use Rattle.loading.specs.Loading.{Loads};
+ghost use Rattle.loading.specs.Steps.{frontFits, queueFits, nameFits, LoadsPart};
 
-// A channel, or that the numbers are none that a sound one has.
+// The channel, and the last id seen on it.
 pub struct Loaded {
-    pub fits: bool,
+    pub last: synth::LastId,
     pub channel: channel::Channel,
 }
 
-// Entries of a queue, and whether their numbers were such.
-struct Queue {
-    fits: bool,
-    entries: [synth::Entry; 16],
-}
+// A count and a size that no sound channel has.
+const TOO_MANY: usize = queue::MOST + 1;
 
-// Bytes of a name, and whether their numbers were such.
-struct Name {
-    fits: bool,
-    bytes: [u8; 44],
-}
+const TOO_LONG: usize = channelnames::LONGEST + 1;
 
-const NO_ENTRY: synth::Entry = synth::Entry { id: 0, kill: false };
-
-// The first `count` entries, which begin at 4.
-fn load_queue(ws: &[u64; 64], count: usize) -> Queue
-    requires { ⌜ count ≤ 16 ⌝ }
-    ensures { λ r. ⌜ r .fits ≡ all isEntry (numbersAt 4 count (now (ws .entry))) ⌝ }
-    ensures { λ r. ⌜ (r .fits ≡ true → take count (r .entries) ≡ map entryAt (numbersAt 4 count (now (ws .entry)))) ⌝ }
+// The entry with a number, below 2^33; a greater one is no entry's.
+fn entry_at(n: u64) -> synth::Entry
+    ensures { λ r. ⌜ (n < 8589934592 → r ≡ entryAt n) ⌝ }
 {
-    let mut entries = [NO_ENTRY; 16];
-    let mut i = 0;
-    while i < count {
-        let n = ws[4 + i];
-        if 8589934592 <= n {
-            return Queue {
-                fits: false,
-                entries,
-            };
-        }
-        entries[i] = synth::Entry {
-            id: (n / 2) as u32,
-            kill: n % 2 == 1,
-        };
-        i += 1;
-    }
-    Queue {
-        fits: true,
-        entries,
+    synth::Entry {
+        id: (n / 2 % 4294967296) as u32,
+        kill: n % 2 == 1,
     }
 }
 
-// The first `size` bytes of the name, which begin at 20.
-fn load_name(ws: &[u64; 64], size: usize) -> Name
-    requires { ⌜ size ≤ 44 ⌝ }
-    ensures { λ r. ⌜ r .fits ≡ all isByte (numbersAt 20 size (now (ws .entry))) ⌝ }
-    ensures { λ r. ⌜ (r .fits ≡ true → take size (r .bytes) ≡ numbersAt 20 size (now (ws .entry))) ⌝ }
+// 0 for the numbers of entries alone, so that a loop can sum it up and needs no test.
+fn past_entries(n: u64) -> u64
+    ensures { λ r. ⌜ (r ≡ n / 8589934592) × (r ≤ 2147483647) ⌝ }
 {
-    let mut bytes = [0u8; 44];
-    let mut i = 0;
-    while i < size {
-        let b = ws[20 + i];
-        if 255 < b {
-            return Name { fits: false, bytes };
-        }
-        bytes[i] = b as u8;
-        i += 1;
-    }
-    Name { fits: true, bytes }
+    n / 8589934592
 }
 
-// The state with a number, 0 to 2; a greater one is no state.
+// The state with a number, 0 to 2; a greater one is no state's.
 fn state_at(n: u64) -> synth::State
     ensures { λ r. ⌜ (n ≤ 2 → stateAt n ≡ some r) ⌝ }
 {
@@ -88,88 +51,93 @@ fn state_at(n: u64) -> synth::State
     }
 }
 
-// The last id seen, by the first one above it.
+// The last id seen, by the first one above it, at most 2^32.
 fn last_at(n: u64) -> synth::LastId
-    requires { ⌜ n ≤ 4294967296 ⌝ }
-    ensures { λ r. ⌜ r ≡ lastAt n ⌝ }
+    ensures { λ r. ⌜ (n ≤ 4294967296 → r ≡ lastAt n) ⌝ }
 {
     if n == 0 {
         return synth::LastId::NoneSeen;
     }
-    synth::LastId::Seen((n - 1) as u32)
+    synth::LastId::Seen(((n - 1) % 4294967296) as u32)
 }
 
-fn none_loaded() -> Loaded
-    ensures { λ r. ⌜ r .fits ≡ false ⌝ }
+// Whether state, last id and count are within their ranges.
+fn front_fits(ws: &[u64; 64]) -> bool
+    ensures { λ r. ⌜ r ≡ frontFits (now (ws .entry)) ⌝ }
 {
-    let channel = channel::Channel {
-        name: [0u8; 44],
-        size: 0,
-        state: synth::State::Idle,
-        queue: [NO_ENTRY; 16],
-        count: 0,
-        last: synth::LastId::NoneSeen,
-    };
-    Loaded {
-        fits: false,
-        channel,
+    if 2 < ws[0] {
+        return false;
     }
+    if 4294967296 < ws[1] {
+        return false;
+    }
+    ws[2] <= queue::MOST as u64
 }
 
-// The same where the four numbers in front are within their ranges.
-fn load_within(ws: &[u64; 64], state: u64, last: u64, count: usize, size: usize) -> Loaded
-    requires { ⌜ (state ≡ getD (now ws) 0 0) × (state ≤ 2) ⌝ }
-    requires { ⌜ (last ≡ getD (now ws) 1 0) × (last ≤ 4294967296) ⌝ }
-    requires { ⌜ (count ≡ getD (now ws) 2 0) × (count ≤ 16) ⌝ }
-    requires { ⌜ (size ≡ getD (now ws) 3 0) × (size ≤ 44) ⌝ }
-    ensures { λ r. ⌜ r .fits ≡ (all isEntry (numbersAt 4 count (now (ws .entry))) && all isByte (numbersAt 20 size (now (ws .entry)))) ⌝ }
-    ensures { λ r. ⌜ (r .fits ≡ true → viewOf (now (ws .entry)) ≡ some (view (r .channel))) ⌝ }
+fn load_queue(ws: &[u64; 64]) -> queue::Queue
+    ensures { λ r. ⌜ LoadsPart (queueFits (now (ws .entry)))
+        (map entryAt (numbersAt 4 (getD (now (ws .entry)) 2 0) (now (ws .entry)))) 16 (listOf r) ⌝ }
 {
-    let q = load_queue(ws, count);
-    if !q.fits {
-        return none_loaded();
+    let mut entries = [queue::NO_ENTRY; queue::MOST];
+    if !front_fits(ws) {
+        return queue::Queue {
+            entries,
+            count: TOO_MANY,
+        };
     }
-    let n = load_name(ws, size);
-    if !n.fits {
-        return none_loaded();
+    let count = ws[2] as usize;
+    let mut over: u64 = 0;
+    let mut i: usize = 0;
+    while i < count {
+        let n = ws[channelnumbers::QUEUE_AT + i];
+        over = over + past_entries(n);
+        entries[i] = entry_at(n);
+        i += 1;
     }
-    let name = n.bytes;
-    let queue = q.entries;
-    let state = state_at(state);
-    let last = last_at(last);
-    let channel = channel::Channel {
-        name,
-        size,
-        state,
-        queue,
-        count,
-        last,
-    };
-    Loaded {
-        fits: true,
-        channel,
+    if over != 0 {
+        return queue::Queue {
+            entries,
+            count: TOO_MANY,
+        };
     }
+    queue::Queue { entries, count }
 }
 
-// The channel that the numbers are. Those past the count and past the size are not looked at.
+fn load_name(ws: &[u64; 64]) -> channelnames::Name
+    ensures { λ r. ⌜ LoadsPart (nameFits (now (ws .entry)))
+        (numbersAt 20 (getD (now (ws .entry)) 3 0) (now (ws .entry))) 44 (nameOf r) ⌝ }
+{
+    let mut bytes = [0u8; channelnames::LONGEST];
+    if (channelnames::LONGEST as u64) < ws[3] {
+        return channelnames::Name {
+            bytes,
+            size: TOO_LONG,
+        };
+    }
+    let size = ws[3] as usize;
+    let mut i: usize = 0;
+    while i < size {
+        let b = ws[channelnumbers::NAME_AT + i];
+        if 255 < b {
+            return channelnames::Name {
+                bytes,
+                size: TOO_LONG,
+            };
+        }
+        bytes[i] = b as u8;
+        i += 1;
+    }
+    channelnames::Name { bytes, size }
+}
+
+// The channel that the numbers are, or one that is not sound. Those past the count and past the size are not looked at.
 pub fn load(ws: &[u64; 64]) -> Loaded
     ensures { λ r. ⌜ Loads (now (ws .entry)) r ⌝ }
 {
-    let state = ws[0];
-    let last = ws[1];
-    let outstanding = ws[2];
-    let length = ws[3];
-    if 2 < state {
-        return none_loaded();
-    }
-    if 4294967296 < last {
-        return none_loaded();
-    }
-    if 16 < outstanding {
-        return none_loaded();
-    }
-    if 44 < length {
-        return none_loaded();
-    }
-    load_within(ws, state, last, outstanding as usize, length as usize)
+    let queue = load_queue(ws);
+    let name = load_name(ws);
+    let state = state_at(ws[0]);
+    let last = last_at(ws[1]);
+    let channel = channel::Channel { name, state, queue };
+    Loaded { last, channel }
 }

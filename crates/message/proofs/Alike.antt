@@ -9,7 +9,7 @@ use Rattle.framing.specs.declared.Framing.{Framing}
 use Rattle.framing.specs.declared.Framing.the-variants.{More, NoMessage, TooLong, TooShort, Frame}
 use Rattle.message.specs.Message.{part, onReading}
 use Rattle.message.specs.StartLines.{startLine}
-use Rattle.message.specs.Reading.{readFrom, readFramed, reading, heard}
+use Rattle.message.specs.Reading.{readFrom, readFramed, reading, readBytes}
 use Rattle.message.proofs.Says.{told}
 use Rattle.message.proofs.Parts.{reading-within}
 
@@ -26,9 +26,9 @@ module _ (u s : List ℕ) where
     unfolding reading
     reading-alike = ap (readFramed u) eu ∙ framed-alike x e ∙ sym (ap (readFramed s) es)
 
-    pub heard-alike : heard u ≡ heard s
-    unfolding heard
-    heard-alike =
+    pub bytes-alike : readBytes u ≡ readBytes s
+    unfolding readBytes
+    bytes-alike =
         let within : (w : List ℕ) → framing w ≡ x → onReading (part (take (frameLength x) w)) (reading w) ≡ onReading (part w) (reading w)
         = λ w f. ap (λ y. onReading (part (take (frameLength y) w)) (reading w)) (sym f) ∙ reading-within w (reading w) (told w) in
         sym (within u eu) ∙ ap₂ (λ f r. onReading (part f) r) e reading-alike ∙ within s es

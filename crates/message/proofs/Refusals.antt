@@ -9,7 +9,7 @@ use Rattle.framing.specs.declared.Framing.{Framing}
 use Rattle.framing.specs.declared.Framing.the-variants.{More, NoMessage, TooLong, TooShort, Frame}
 use Rattle.message.specs.Message.{Head, Reading, refused, message, part, onReading}
 use Rattle.message.specs.StartLines.{Started, started, startLine}
-use Rattle.message.specs.Reading.{readFrom, readFramed, reading, heard}
+use Rattle.message.specs.Reading.{readFrom, readFramed, reading, readBytes}
 
 module _ (s : List ℕ) where
   -- a reading with a number of the table, and a message with none
@@ -28,6 +28,6 @@ module _ (s : List ℕ) where
   from-framing TooShort = (omega arith, omega arith)
   from-framing (Frame a b k n) = from-line _ (take n s) (startLine k (take n s))
 
-  pub refused-number : (n k : ℕ) → heard s ≡ refused n k → (1 ≤ n) × (n ≤ 5)
-  unfolding heard reading
+  pub refused-number : (n k : ℕ) → readBytes s ≡ refused n k → (1 ≤ n) × (n ≤ 5)
+  unfolding readBytes reading
   refused-number n k e = rw e at (from-framing (framing s))

@@ -63,7 +63,7 @@ abbrev pub NameFits : Field Span → Type 0
 NameFits x = (1 ≤ x .name .len) × (x .name .len ≤ 64)
 
 -- a line from `at` on in n bytes
-abbrev Row : ℕ → ℕ → Line → Type 0
+abbrev pub Row : ℕ → ℕ → Line → Type 0
 Row at n Line.malformed = Unit {0}
 Row at n (empty next) = (at ≤ next) × (next ≤ n)
 Row at n (field x next) = Rows at (x ∷ []) next × (next ≤ n) × NameFits x
@@ -85,7 +85,7 @@ line-at at s (some []) h = omega (arith, line-length (drop at s) [] h, length-dr
 line-at at s (some (x ∷ l)) h =
     field-at at (run isPlain (x ∷ l)) (length s) (x ∷ l) (omega (arith, line-length (drop at s) (x ∷ l) h, length-drop at s))
 
-field-line : (at : ℕ) (s : List ℕ) → Row at (length s) (fieldLine at (drop at s))
+pub field-line : (at : ℕ) (s : List ℕ) → Row at (length s) (fieldLine at (drop at s))
 unfolding fieldLine
 field-line at s = line-at at s (line (drop at s)) (line-cut (drop at s))
 

@@ -18,7 +18,7 @@ use Rattle.message.specs.Message.{InRange, part, onField, onReading}
 use Rattle.message.specs.StartLines.{Started, started, startLine}
 use Rattle.message.specs.Fields.{Lines, lines, fieldLines}
 use Rattle.message.specs.Known.{onceEach, namesOf, valueOf}
-use Rattle.message.specs.Reading.{agrees, judged, fieldsFrom, readFrom, readFramed, reading, heard}
+use Rattle.message.specs.Reading.{agrees, judged, fieldsFrom, readFrom, readFramed, reading, readBytes}
 use Rattle.message.specs.declared.Span.{Span}
 use Rattle.message.specs.declared.Known.the-variants.{ContentLength}
 use Rattle.message.proofs.StartLine.{Named, Begun, start-line}
@@ -113,6 +113,6 @@ ranged-on f s (message h (request p i) fs) t = t .ranged
 ranged-on f s (message h (response i c r) fs) t = t .ranged
 ranged-on f s (message h (event p i r) fs) t = t .ranged
 
-pub heard-ranged : (s : List ℕ) (h : Head) (st : Start (List ℕ)) (fs : Fields (List ℕ)) → heard s ≡ message h st fs → InRange st
-unfolding heard
-heard-ranged s h st fs e = subst Ranged e (ranged-on (part s) s (reading s) (told s))
+pub bytes-ranged : (s : List ℕ) (h : Head) (st : Start (List ℕ)) (fs : Fields (List ℕ)) → readBytes s ≡ message h st fs → InRange st
+unfolding readBytes
+bytes-ranged s h st fs e = subst Ranged e (ranged-on (part s) s (reading s) (told s))

@@ -51,8 +51,8 @@ unfoldable pub reading : List ℕ → Reading Span
 reading s = readFramed s (framing s)
 
 -- the same, by the bytes that stand there
-unfoldable pub heard : List ℕ → Reading (List ℕ)
-heard s = onReading (part s) (reading s)
+unfoldable pub readBytes : List ℕ → Reading (List ℕ)
+readBytes s = onReading (part s) (reading s)
 
 abbrev pub bodyIn : Fields (List ℕ) → List ℕ
 bodyIn bad = []
@@ -61,7 +61,7 @@ bodyIn (good fs body) = body
 -- the messages that stand end to end at the front of s, at most `most`
 unfoldable pub messagesIn : ℕ → List ℕ → List Message
 messagesIn zero s = []
-messagesIn (suc most) s = elim (heard s) [
+messagesIn (suc most) s = elim (readBytes s) [
   | refused number consumed ↦ []
   | message h start fs ↦ record { start = start; fields = fieldsIn fs; body = bodyIn fs } ∷ messagesIn most (drop (h .stated) s)
 ]

@@ -1,3 +1,2 @@
-pub mod Four
 pub mod Starts
 pub mod Handing

@@ -3,6 +3,7 @@ ghost use mathlib.Core.Path.{_≡_};
 ghost use mathlib.Core.List.{[], _∷_, _++_};
 ghost use Prim.Native.Nat.{_+_, _≤_};
 ghost use lib.ListN.{length, take, drop};
+ghost use lib.Seq.{paste};
 ghost use Rattle.message.specs.Reading.{fieldsFrom};
 ghost use Rattle.messagenumbers.specs.Layout.{handed, stateNumber, goodNumber, fieldsNumbers};
 ghost use Rattle.messagenumbers.specs.Steps.{Numbers, numbersOf, headNumbers};
@@ -10,7 +11,8 @@ ghost use Rattle.messagenumbers.specs.Steps.{Numbers, numbersOf, headNum
 // Four numbers at `at`.
 fn put_four(out: &mut [u64], at: usize, a: u64, b: u64, c: u64, d: u64)
     requires { ⌜ at + 4 ≤ length (now out) ⌝ }
-    ensures { λ _. ⌜ now (out .exit) ≡ take at (now (out .entry)) ++ (a ∷ b ∷ c ∷ d ∷ []) ++ drop (at + 4) (now (out .entry)) ⌝ }
+    ensures { λ _. ⌜ now (out .exit)
+        ≡ take at (now (out .entry)) ++ (a ∷ b ∷ c ∷ d ∷ []) ++ drop (at + 4) (now (out .entry)) ⌝ }
 {
     out[at] = a;
     out[at + 1] = b;
@@ -18,7 +20,8 @@ fn put_four(out: &mut [u64], at: usize, a: u64, b: u64, c: u64, d: u64)
     out[at + 3] = d;
 }
 
-// A frame's version and the lengths of its opening and of itself at the front of `out`, or 7 where they are more than it holds.
+// A frame's version and the lengths of its opening and of itself at the front of `out`, or 7 where they are more than
+// it holds.
 pub fn hand_over_frame(
     major: u64,
     minor: u64,
@@ -26,7 +29,8 @@ pub fn hand_over_frame(
     length: usize,
     out: &mut [u64],
 ) -> u32
-    ensures { λ r. ⌜ record { number = r; out = now (out .exit) } ≡ handed (major ∷ minor ∷ opening ∷ length ∷ []) (now (out .entry)) ⌝ }
+    ensures { λ r. ⌜ record { number = r; out = now (out .exit) }
+        ≡ handed (major ∷ minor ∷ opening ∷ length ∷ []) (now (out .entry)) ⌝ }
 {
     if out.len() < 4 {
         return 7;
@@ -86,50 +90,45 @@ pub fn start_numbers(start: startline::Start) -> StartNumbers
     }
 }
 
-// The sixteen numbers in front of the fields.
-fn put_head(out: &mut [u64], major: u64, minor: u64, n: StartNumbers, g: Gist)
-    requires { ⌜ 16 ≤ length (now out) ⌝ }
-    ensures { λ _. ⌜ now (out .exit) ≡ headNumbers major minor n g ++ drop 16 (now (out .entry)) ⌝ }
-{
-    put_four(out, 0, n.kind, major, minor, n.name as u64);
-    put_four(out, 4, n.len as u64, n.id, n.status, n.state);
-    put_four(out, 8, g.good, g.count as u64, g.body as u64, g.len as u64);
-    put_four(out, 12, g.mask, 0, 0, 0);
-}
-
-// What stands after the start line, but for the fields' places.
-struct Gist {
-    good: u64,
-    count: usize,
-    body: usize,
-    len: usize,
-    mask: u64,
-}
-
 fn good_number(good: bool) -> u64
     ensures { λ r. ⌜ r ≡ goodNumber good ⌝ }
 {
     if good { 1 } else { 0 }
 }
 
-// The four numbers of a field at `at`.
-fn put_field(out: &mut [u64], at: usize, x: fieldlines::Field)
-    requires { ⌜ at + 4 ≤ length (now out) ⌝ }
-    ensures { λ _. ⌜ now (out .exit) ≡ take at (now (out .entry)) ++ (x .name .start ∷ x .name .len ∷ x .value .start ∷ x .value .len ∷ []) ++ drop (at + 4) (now (out .entry)) ⌝ }
+// The sixteen numbers in front of the fields.
+fn put_head(out: &mut [u64], major: u64, minor: u64, n: StartNumbers, h: header::Header)
+    requires { ⌜ 16 ≤ length (now out) ⌝ }
+    ensures { λ _. ⌜ now (out .exit) ≡ headNumbers major minor n h ++ drop 16 (now (out .entry)) ⌝ }
 {
-    let name = x.name;
-    let value = x.value;
+    let body = h.body;
+    put_four(out, 0, n.kind, major, minor, n.name as u64);
+    put_four(out, 4, n.len as u64, n.id, n.status, n.state);
     put_four(
         out,
-        at,
-        name.start as u64,
-        name.len as u64,
-        value.start as u64,
-        value.len as u64,
+        8,
+        good_number(h.good),
+        h.count as u64,
+        body.start as u64,
+        body.len as u64,
     );
+    put_four(out, 12, h.mask as u64, 0, 0, 0);
 }
 
-// The message's numbers at the front of `out`, or 7 where they are more than it holds.
+// The first `n` of `places` behind the sixteen numbers in front.
+fn put_places(out: &mut [u64], places: &[u64], n: usize)
+    requires { ⌜ (16 + n ≤ length (now out)) × (n ≤ length (now places)) ⌝ }
+    ensures { λ _. ⌜ now (out .exit) ≡ paste (now (out .entry)) 16 (now (places .entry)) n ⌝ }
+{
+    let mut j = 0;
+    while j < n {
+        out[16 + j] = places[j];
+        j += 1;
+    }
+}
+
+// The message's numbers at the front of `out`, or 7 where they are more than it holds. They are written when it is sure
+// that they fit and that the fields are good: until then their places stand in an array of this call.
 pub fn hand_over(
     f: &[u8],
     at: usize,
@@ -138,32 +137,17 @@ pub fn hand_over(
     n: StartNumbers,
     out: &mut [u64],
 ) -> u32
-    ensures { λ r. ⌜ record { number = r; out = now (out .exit) } ≡ handed (numbersOf major minor n ++ fieldsNumbers (now (f .entry)) (fieldsFrom (now (f .entry)) at)) (now (out .entry)) ⌝ }
+    ensures { λ r. ⌜ record { number = r; out = now (out .exit) }
+        ≡ handed (numbersOf major minor n ++ fieldsNumbers (now (f .entry)) (fieldsFrom (now (f .entry)) at))
+        (now (out .entry)) ⌝ }
 {
-    let h = header::read_header(f, at);
+    let mut places = [0u64; 4 * header::MOST_FIELDS];
+    let h = header::read_header(f, at, &mut places);
     let count = h.count;
     if out.len() < 16 + 4 * count {
         return 7;
     }
-    let body = h.body;
-    let good = good_number(h.good);
-    put_head(
-        out,
-        major,
-        minor,
-        n,
-        Gist {
-            good,
-            count,
-            body: body.start,
-            len: body.len,
-            mask: h.mask as u64,
-        },
-    );
-    let mut j = 0;
-    while j < count {
-        put_field(out, 16 + 4 * j, h.fields[j]);
-        j += 1;
-    }
+    put_head(out, major, minor, n, h);
+    put_places(out, &places, 4 * count);
     0
 }

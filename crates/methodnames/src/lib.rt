@@ -1,6 +1,6 @@
 // Which method a request names: document 01, "Start lines" and judgement 7.
 ghost use mathlib.Core.Path.{_≡_};
-ghost use Rattle.synth.specs.Request.{methodOf, orElse, isSpeak, isStop};
+ghost use Rattle.synth.specs.Request.{methodOf, orElse};
 ghost use Rattle.synth.specs.declared.Method.the-variants.{Unknown};
 
 // The method `m`, where the comparison with its name held.
@@ -29,33 +29,5 @@ pub fn method(name: &[u8]) -> synth::Method
             synth::Method::BargeInOccurred,
         ),
         _ => synth::Method::Unknown,
-    }
-}
-
-pub fn is_speak(m: synth::Method) -> bool
-    ensures { λ r. ⌜ r ≡ isSpeak m ⌝ }
-{
-    match m {
-        synth::Method::Speak => true,
-        synth::Method::Stop => false,
-        synth::Method::Pause => false,
-        synth::Method::Resume => false,
-        synth::Method::Control => false,
-        synth::Method::BargeInOccurred => false,
-        synth::Method::Unknown => false,
-    }
-}
-
-pub fn is_stop(m: synth::Method) -> bool
-    ensures { λ r. ⌜ r ≡ isStop m ⌝ }
-{
-    match m {
-        synth::Method::Speak => false,
-        synth::Method::Stop => true,
-        synth::Method::Pause => false,
-        synth::Method::Resume => false,
-        synth::Method::Control => false,
-        synth::Method::BargeInOccurred => false,
-        synth::Method::Unknown => false,
     }
 }

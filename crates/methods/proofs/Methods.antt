@@ -1,6 +1,6 @@
 -- What judgements 6 to 11 come to for each method but SPEAK, one law for each way out. Assumes nothing.
 use Prim.Native.Nat.{ℕ}
-use mathlib.Core.Path.{_≡_, refl, sym, ap, subst, _∙_}
+use mathlib.Core.Path.{_≡_, refl, sym, ap, _∙_}
 use mathlib.Core.Bool.{true, false, false≢true}
 use mathlib.Core.Option.{Option}
 use mathlib.Core.List.{List, [], _∷_}
@@ -8,39 +8,20 @@ use Rattle.message.specs.Message.{Fields}
 use Rattle.message.specs.declared.Known.the-variants.{ActiveRequestIdList}
 use Rattle.message.specs.declared.RequestState.the-variants.{Complete}
 use Rattle.answer.specs.IdList.{isIdList}
-use Rattle.synth.specs.Channel.{View, withQueue, isIdle, held}
-use Rattle.synth.specs.Request.{Request, acting}
-use Rattle.synth.specs.Judgement.{_then_, unless, optional, legal, amongSix, valid, content, room, late}
+use Rattle.synth.specs.Channel.{View, isIdle, held}
+use Rattle.synth.specs.Request.{Request, acting, ignoresAny}
+use Rattle.synth.specs.Judgement.{_then_, unless, optional, legal, amongSix, valid, content, capacity, late}
 use Rattle.synth.specs.States.{failed, succeeded, stop, bargeIn, active, act, afterLate}
 use Rattle.synth.specs.declared.Entry.{Entry}
 use Rattle.synth.specs.declared.Method.{Method}
-use Rattle.synth.specs.declared.State.{State}
 use Rattle.synth.specs.declared.State.the-variants.{Idle, Speaking, Paused}
-use Rattle.channel.specs.Channel.{view}
-use Rattle.channel.specs.declared.Channel.{Channel}
-use Rattle.queue.specs.Queue.{first, listsNone, Lists}
-use Rattle.queue.specs.declared.Listing.{Listing}
-use Rattle.request.specs.Telling.{Tells}
-use Rattle.request.specs.declared.Facts.{Facts}
-use Rattle.outcomes.specs.Outcomes.{asked, Makes}
-use Rattle.outcomes.specs.declared.Outcome.{Outcome}
-use Rattle.outcomes.proofs.Making.{none-lists}
-
--- the same state and queue again
-pub unchanged : (v : View) (s : State) → v .state ≡ s → v ≡ withQueue s (v .queue) v
-unchanged v s e = λ i. record { name = v .name; state = e i; queue = v .queue; last = v .last }
-
-pub none-listed : (c : Channel) {next : View} {l : Listing} → l ≡ listsNone c → view c ≡ next → Lists [] next l
-none-listed c {next} e f = rw e (none-lists c next f)
-
-pub active-listed : {v next : View} {l : Listing} → Lists (active (v .queue)) v l → v ≡ next → Lists (active (next .queue)) next l
-active-listed {v} {next} {l} h e = subst (λ (w : View). Lists (active (w .queue)) w l) e h
-
--- what is shown of `act`, for one method
-abbrev pub Does : View → List ℕ → Facts → Outcome → ℕ → ℕ → ℕ → Fields (List ℕ) → Method → Type 0
-Does v f q o major minor id fs m =
-    let r : Request = asked major minor m id fs in
-    Tells f q r → Makes (v .name) o (afterLate (late v r) v r)
+use Rattle.queue.specs.Queue.{first}
+use Rattle.header.specs.declared.Header.{Header}
+use Rattle.values.specs.Values.{givenOf}
+use Rattle.values.specs.Steps.{meets}
+use Rattle.request.specs.Telling.{Tells, valueBy}
+use Rattle.request.proofs.Telling.{ignores}
+use Rattle.outcomes.specs.Outcomes.{asked}
 
 module _ (v : View) (major minor id : ℕ) (fs : Fields (List ℕ)) where
   -- STOP
@@ -53,11 +34,18 @@ module _ (v : View) (major minor id : ℕ) (fs : Fields (List ℕ)) where
     stop-illegal e = rw e
 
     stopping : optional isIdList (acting ActiveRequestIdList stops) ≡ true → afterLate (late v stops) v stops ≡ stop (acting ActiveRequestIdList stops) v stops
-    unfolding late legal amongSix valid content room acting unless _then_ act
+    unfolding late legal amongSix valid content capacity acting unless _then_ act
     stopping e = rw e
 
     pub stop-legal : (list : Option (List ℕ)) → list ≡ acting ActiveRequestIdList stops → optional isIdList list ≡ true → afterLate (late v stops) v stops ≡ stop list v stops
     stop-legal list l e = stopping (ap (optional isIdList) (sym l) ∙ e) ∙ ap (λ x. stop x v stops) (sym l)
+
+    pub list-told : (f : List ℕ) (h : Header) → Tells f h fs → givenOf f (valueBy h ActiveRequestIdList) ≡ acting ActiveRequestIdList stops
+    unfolding acting
+    list-told f h w = w .value ActiveRequestIdList refl
+
+    pub ignored-in-stop : (f : List ℕ) (h : Header) → Tells f h fs → meets (h .mask) 148 ≡ ignoresAny stops
+    ignored-in-stop f h w = ignores f h fs w major minor id Method.Stop 148 refl
 
   -- BARGE-IN-OCCURRED
   module _ where
@@ -65,7 +53,7 @@ module _ (v : View) (major minor id : ℕ) (fs : Fields (List ℕ)) where
     barges = asked major minor Method.BargeInOccurred id fs
 
     barge : afterLate (late v barges) v barges ≡ bargeIn (v .queue) v barges
-    unfolding late legal amongSix valid content room acting unless _then_ act
+    unfolding late legal amongSix valid content capacity acting unless _then_ act
     barge = refl
 
     pub barge-kills : first (v .queue) .kill ≡ true → afterLate (late v barges) v barges ≡ succeeded v barges Complete (held v) Idle []
@@ -88,11 +76,11 @@ module _ (v : View) (major minor id : ℕ) (fs : Fields (List ℕ)) where
     pauses = asked major minor Method.Pause id fs
 
     pub pause-idle : isIdle (v .state) ≡ true → afterLate (late v pauses) v pauses ≡ failed v pauses 402
-    unfolding late legal amongSix valid content room acting unless _then_
+    unfolding late legal amongSix valid content capacity acting unless _then_
     pause-idle e = rw e
 
     pub pause-busy : isIdle (v .state) ≡ false → afterLate (late v pauses) v pauses ≡ succeeded v pauses Complete (active (v .queue)) Paused (v .queue)
-    unfolding late legal amongSix valid content room acting unless _then_ act
+    unfolding late legal amongSix valid content capacity acting unless _then_ act
     pause-busy e = rw e
 
   module _ where
@@ -100,11 +88,11 @@ module _ (v : View) (major minor id : ℕ) (fs : Fields (List ℕ)) where
     controls = asked major minor Method.Control id fs
 
     pub control-idle : isIdle (v .state) ≡ true → afterLate (late v controls) v controls ≡ failed v controls 402
-    unfolding late legal amongSix valid content room acting unless _then_
+    unfolding late legal amongSix valid content capacity acting unless _then_
     control-idle e = rw e
 
     pub control-busy : isIdle (v .state) ≡ false → afterLate (late v controls) v controls ≡ succeeded v controls Complete (active (v .queue)) (v .state) (v .queue)
-    unfolding late legal amongSix valid content room acting unless _then_ act
+    unfolding late legal amongSix valid content capacity acting unless _then_ act
     control-busy e = rw e
 
   module _ where
@@ -112,15 +100,15 @@ module _ (v : View) (major minor id : ℕ) (fs : Fields (List ℕ)) where
     resumes = asked major minor Method.Resume id fs
 
     pub resume-idle : v .state ≡ Idle → afterLate (late v resumes) v resumes ≡ failed v resumes 402
-    unfolding late legal amongSix valid content room acting unless _then_
+    unfolding late legal amongSix valid content capacity acting unless _then_
     resume-idle e = rw e
 
     pub resume-speaking : v .state ≡ Speaking → afterLate (late v resumes) v resumes ≡ succeeded v resumes Complete [] Speaking (v .queue)
-    unfolding late legal amongSix valid content room acting unless _then_ act
+    unfolding late legal amongSix valid content capacity acting unless _then_ act
     resume-speaking e = rw e
 
     pub resume-paused : v .state ≡ Paused → afterLate (late v resumes) v resumes ≡ succeeded v resumes Complete (active (v .queue)) Speaking (v .queue)
-    unfolding late legal amongSix valid content room acting unless _then_ act
+    unfolding late legal amongSix valid content capacity acting unless _then_ act
     resume-paused e = rw e
 
   -- another method
@@ -129,5 +117,5 @@ module _ (v : View) (major minor id : ℕ) (fs : Fields (List ℕ)) where
     others = asked major minor Method.Unknown id fs
 
     pub unknown-fails : afterLate (late v others) v others ≡ failed v others 401
-    unfolding late legal amongSix valid content room acting unless _then_
+    unfolding late legal amongSix valid content capacity acting unless _then_
     unknown-fails = refl

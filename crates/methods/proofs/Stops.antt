@@ -1,34 +1,43 @@
--- STOP: which of the ids held the list names, and what ends. Assumes nothing.
+-- STOP and BARGE-IN-OCCURRED: which of the ids held the list names, and what ends. Assumes nothing.
 use Prim.Native.Nat.{ℕ, _≤_, _<_}
 use mathlib.Core.Path.{_≡_, refl, sym, ap, _∙_}
-use mathlib.Core.Bool.{Bool, true, false, not}
-use mathlib.Core.Option.{none}
+use mathlib.Core.Bool.{Bool, true, false}
+use mathlib.Core.Option.{none, some}
 use mathlib.Core.List.{List, [], _∷_}
 use native.Mathlib.Omega.{arith}
 use lib.Dec.{leb}
 use lib.ListN.{length, take}
 use lib.Seq.{take-all}
 use borrow.Author.Tests.{leb-true, leb-false}
-use Rattle.lists.specs.Lists.{elem, keep}
+use Rattle.lists.specs.Lists.{keep}
+use Rattle.message.specs.declared.RequestState.the-variants.{Complete}
 use Rattle.answer.specs.IdList.{isIdList, idsOf}
 use Rattle.idlist.specs.Named.{bitsFrom, namedIn}
 use Rattle.idlist.specs.declared.Which.{Which}
-use Rattle.synth.specs.Channel.{View, withQueue, held, ids}
-use Rattle.synth.specs.States.{whileAny, ends}
+use Rattle.synth.specs.Channel.{View, withQueue, ids}
+use Rattle.synth.specs.Request.{Request, ignoresAny}
+use Rattle.synth.specs.States as S
+use Rattle.synth.specs.States.{whileAny, ends, stop}
 use Rattle.synth.specs.declared.Entry.{Entry}
+use Rattle.synth.specs.declared.State.{State}
 use Rattle.synth.specs.declared.State.the-variants.{Idle}
-use Rattle.queue.specs.Queue.{marked, listsNone, Lists}
-use Rattle.channel.specs.declared.Channel.{Channel}
-use Rattle.queue.specs.declared.Listing.{Listing}
+use Rattle.queue.specs.Queue.{listOf, marked, noIds, Lists}
+use Rattle.queue.specs.declared.Ids.{Ids}
+use Rattle.queue.specs.declared.Queue.{Queue}
+use Rattle.queue.proofs.Masks as Q
+use Rattle.outcomes.specs.Outcomes.{Makes}
+use Rattle.outcomes.specs.declared.Outcome.{Outcome}
+use Rattle.outcomes.proofs.Making.{makes-success}
+use Rattle.methods.specs.Ending.{EndsBy}
 use Rattle.methods.proofs.Masks.{marks-listed, marks-others}
 
 -- never more than the array holds
-pub held-few : (v : View) (c : Channel) (l : Listing) → ((length (v .queue) ≤ 16 → Lists (held v) v l) × (16 < length (v .queue) → l ≡ listsNone c)) → l .count ≤ 16
-held-few v c l e = go (leb (length (v .queue)) 16) refl
+pub held-few : (queue : List Entry) (l : Ids) → ((length queue ≤ 16 → Lists (ids queue) l) × (16 < length queue → l ≡ noIds)) → l .count ≤ 16
+held-few queue l e = go (leb (length queue) 16) refl
   where
-    go : (b : Bool) → leb (length (v .queue)) 16 ≡ b → l .count ≤ 16
-    go true t = e .0 (leb-true (length (v .queue)) 16 t) .few
-    go false t = rw (e .1 (leb-false (length (v .queue)) 16 t)) (omega arith)
+    go : (b : Bool) → leb (length queue) 16 ≡ b → l .count ≤ 16
+    go true t = e .0 (leb-true (length queue) 16 t) .few
+    go false t = rw (e .1 (leb-false (length queue) 16 t)) (omega arith)
 
 -- what the list says of the ids held
 module _ (list held : List ℕ) where
@@ -54,14 +63,7 @@ module _ (list held : List ℕ) where
           (refl, same ∙ ap (bitsFrom 0 (idsOf list)) (take-all 64 held (omega arith)))
       go false e = let d : _≡_ {A = ℕ} 0 1 = cc in absurd (omega arith)
 
--- those named end, the others stay
-pub named-end : (v : View) (list : List ℕ) (mask : ℕ) (l : Listing) → mask ≡ bitsFrom 0 (idsOf list) (held v)
-    → (let rest = marked false mask 0 (v .queue) in Lists (ids (marked true mask 0 (v .queue))) (withQueue (whileAny (v .state) rest) rest v) l)
-    → (let rest = keep (λ (e : Entry). not (elem (e .id) (idsOf list))) (v .queue) in
-    Lists (ids (keep (λ (e : Entry). elem (e .id) (idsOf list)) (v .queue))) (withQueue (whileAny (v .state) rest) rest v) l)
-named-end v list mask l e h = rw (e, marks-listed (idsOf list) (v .queue), marks-others (idsOf list) (v .queue)) at h
-
--- without a list all end
+-- without a list all are kept among those that end
 keep-every : (q : List Entry) → keep (λ (e : Entry). true) q ≡ q
 keep-every [] = refl
 keep-every (e ∷ q) = rw (keep-every q)
@@ -70,6 +72,29 @@ keep-no : (q : List Entry) → keep (λ (e : Entry). false) q ≡ []
 keep-no [] = refl
 keep-no (e ∷ q) = rw (keep-no q)
 
-pub all-end : (v : View) (l : Listing) → Lists (held v) (withQueue Idle [] v) l
-    → (let rest = keep (λ (e : Entry). not (ends none e)) (v .queue) in Lists (ids (keep (ends none) (v .queue))) (withQueue (whileAny (v .state) rest) rest v) l)
-all-end v l h = rw (keep-every (v .queue), keep-no (v .queue)) h
+-- what ends, and what is answered
+module _ (state : State) (q : Queue) (v : View) (r : Request) where
+  abbrev w : View
+  w = withQueue state (listOf q) v
+
+  module _ {ignored : Bool} {o : Outcome} {d : S.Outcome} (told : ignored ≡ ignoresAny r) where
+    ended : (mask : ℕ) {gone rest : List Entry} → EndsBy mask state (listOf q) (r .id) ignored o → marked true mask 0 (listOf q) ≡ gone
+        → marked false mask 0 (listOf q) ≡ rest → d ≡ S.succeeded w r Complete (ids gone) (whileAny state rest) rest → Makes w o d
+    ended mask {gone} {rest} e g k f =
+        let left : listOf (o .queue) ≡ rest = e .ends .left ∙ k in
+        makes-success w r (whileAny state (listOf (o .queue))) (o .queue) told Complete (o .listed) (e .answers) (e .ends .lists) left
+        (f ∙ sym (λ z. S.succeeded w r Complete (ids (g z)) (whileAny state (left z)) rest))
+
+    -- those named end, the others stay
+    pub named-end : (list : List ℕ) (mask : ℕ) → mask ≡ bitsFrom 0 (idsOf list) (ids (listOf q)) → EndsBy mask state (listOf q) (r .id) ignored o
+        → d ≡ stop (some list) w r → Makes w o d
+    named-end list mask m e f =
+        ended mask e (ap (λ (n : ℕ). marked true n 0 (listOf q)) m ∙ marks-listed (idsOf list) (listOf q))
+        (ap (λ (n : ℕ). marked false n 0 (listOf q)) m ∙ marks-others (idsOf list) (listOf q)) f
+
+    module _ (few : length (listOf q) ≤ 16) (e : EndsBy 65535 state (listOf q) (r .id) ignored o) where
+      pub all-stop : d ≡ stop none w r → Makes w o d
+      all-stop f = ended 65535 e (Q.all-end (listOf q) few ∙ sym (keep-every (listOf q))) (Q.none-remains (listOf q) few ∙ sym (keep-no (listOf q))) f
+
+      pub all-end : d ≡ S.succeeded w r Complete (ids (listOf q)) Idle [] → Makes w o d
+      all-end f = ended 65535 e (Q.all-end (listOf q) few) (Q.none-remains (listOf q) few) f

@@ -1,22 +1,19 @@
--- Names that came one after the other: their bits in the mask, the number of the field that each is, and whether one came twice.
+-- Names that came one after the other: their bits in the mask, and whether one came twice.
 -- Assumes nothing.
 use mathlib.Core.Path.{_≡_, refl, sym, ap, _∙_}
 use mathlib.Core.Bool.{Bool, true, false, not, _&&_, _||_, or-assoc, or-true, or-false, and-false, false≢true}
 use mathlib.Core.Logic.{⊎-elim}
 use mathlib.Core.List.{List, [], _∷_, _++_}
-use Prim.Native.Nat.{ℕ, zero, suc, _+_, _%_, _≤_, _<_}
-use native.Mathlib.Nat.{add-zero, add-suc, suc-add, div-eq-of-lt}
-use native.Mathlib.Omega.{arith}
+use Prim.Native.Nat.{ℕ, _%_}
+use native.Mathlib.Nat.{div-eq-of-lt}
 use lib.Bits.{bitAnd, bitOr}
-use lib.Dec.{eqb, lit<}
-use lib.ListN.{length, getD, set, replicate}
+use lib.Dec.{eqb}
 use lib.Pow.{pow-pos}
-use lib.Seq.{getD-set-other}
-use borrow.Author.Tests.{eqb-true, eqb-false, eq-eqb, not-true}
+use borrow.Author.Tests.{eqb-true, eq-eqb, not-true}
 use Rattle.lists.proofs.Tests.{both, either, refuted}
 use Rattle.message.specs.Known.{indexOf, is, isKnown, among, onceEach}
 use Rattle.message.specs.declared.Known.{Known}
-use Rattle.names.specs.Names.{bitOf, maskWith, whichFrom}
+use Rattle.names.specs.Names.{bitOf, maskWith}
 use Rattle.lists.specs.Lists.{bit}
 use Rattle.names.specs.Steps.{knownBit}
 use Rattle.names.proofs.Masks.{test-name, set-name}
@@ -25,12 +22,6 @@ use Rattle.names.proofs.Masks.{test-name, set-name}
 pub mask-last : (m : ℕ) (ks : List Known) (k : Known) → maskWith m (ks ++ k ∷ []) ≡ bitOr (maskWith m ks) (bitOf k)
 mask-last m [] k = refl
 mask-last m (j ∷ ks) k = mask-last (bitOr m (bitOf j)) ks k
-
-pub which-last : (j : ℕ) (ks : List Known) (k : Known) (w : List ℕ) → whichFrom j (ks ++ k ∷ []) w ≡ set (whichFrom j ks w) (indexOf k) (j + length ks)
-which-last j [] k w = rw (add-zero j)
-which-last j (x ∷ ks) k w =
-    let w′ = set w (indexOf x) j in
-    which-last (suc j) ks k w′ ∙ ap (set (whichFrom (suc j) ks w′) (indexOf k)) (suc-add j (length ks) ∙ sym (add-suc j (length ks)))
 
 -- names are the same where their numbers are
 pub among-same : (j k : Known) → indexOf j ≡ indexOf k → (ks : List Known) → among j ks ≡ among k ks
@@ -108,33 +99,3 @@ module _ (k : Known) where
         (λ e. rw (again j ks known e))
         (λ e. rw (twice-never ks (conj (isKnown k) (among k ks) known e), and-false))
         (either (is k j) (among k ks) came)
-
--- names that are not k leave its number alone
-pub which-kept : (j : ℕ) (ks : List Known) (w : List ℕ) (k : Known) → among k ks ≡ false → getD (whichFrom j ks w) (indexOf k) 0 ≡ getD w (indexOf k) 0
-which-kept j [] w k h = refl
-which-kept j (x ∷ ks) w k h = which-kept (suc j) ks (set w (indexOf x) j) k (go (is k x) (among k ks) h .1)
-    ∙ getD-set-other w (indexOf x) (indexOf k) j 0 (eqb-false (indexOf k) (indexOf x) (go (is k x) (among k ks) h .0))
-  where
-    go : (a b : Bool) → (a || b) ≡ false → (a ≡ false) × (b ≡ false)
-    go true b e = absurd (false≢true (sym e))
-    go false b e = (refl, e)
-
--- a number that stands for a name is that of a field
-set-below : (n : ℕ) (w : List ℕ) (p v : ℕ) → ((i : ℕ) → getD w i 0 < n) → v < n → (i : ℕ) → getD (set w p v) i 0 < n
-set-below n [] p v h l i = h i
-set-below n (x ∷ w) zero v h l zero = l
-set-below n (x ∷ w) zero v h l (suc i) = h (suc i)
-set-below n (x ∷ w) (suc p) v h l zero = h 0
-set-below n (x ∷ w) (suc p) v h l (suc i) = set-below n w p v (λ i. h (suc i)) l i
-
-which-under : (n j : ℕ) (ks : List Known) (w : List ℕ) → ((i : ℕ) → getD w i 0 < n) → j + length ks ≤ n → (i : ℕ) → getD (whichFrom j ks w) i 0 < n
-which-under n j [] w h l = h
-which-under n j (k ∷ ks) w h l = which-under n (suc j) ks (set w (indexOf k) j) (set-below n w (indexOf k) j h (omega arith)) (omega arith)
-
-zeros : (m i : ℕ) → getD (replicate m 0) i 0 < 32
-zeros zero i = lit< tt
-zeros (suc m) zero = lit< tt
-zeros (suc m) (suc i) = zeros m i
-
-pub which-below : (ks : List Known) → length ks ≤ 32 → (i : ℕ) → getD (whichFrom 0 ks (replicate 16 0)) i 0 < 32
-which-below ks h = which-under 32 0 ks (replicate 16 0) (zeros 16) (omega arith)

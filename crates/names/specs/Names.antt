@@ -1,8 +1,7 @@
--- The known names that came, as bits of a mask and by the numbers of their fields.
-use Prim.Native.Nat.{ℕ, suc, _^_}
+-- The known names that came, as bits of a mask.
+use Prim.Native.Nat.{ℕ, _^_}
 use mathlib.Core.List.{List, [], _∷_, map}
 use lib.Bits.{bitOr}
-use lib.ListN.{set}
 use Rattle.message.specs.Message.{Field, part, onField}
 use Rattle.message.specs.Known.{indexOf, namesOf}
 use Rattle.message.specs.declared.Span.{Span}
@@ -16,11 +15,6 @@ bitOf k = 2 ^ indexOf k
 abbrev pub maskWith : ℕ → List Known → ℕ
 maskWith mask [] = mask
 maskWith mask (k ∷ ks) = maskWith (bitOr mask (bitOf k)) ks
-
--- the number of the field that each known name is, the first of these names being that of field j
-abbrev pub whichFrom : ℕ → List Known → List ℕ → List ℕ
-whichFrom j [] which = which
-whichFrom j (k ∷ ks) which = whichFrom (suc j) ks (set which (indexOf k) j)
 
 -- the names of the fields fs of f
 abbrev pub namesIn : List ℕ → List (Field Span) → List Known

@@ -1,5 +1,6 @@
 // Known field names and the mask of those that came: document 01, "Fields" and judgement 2.
 ghost use mathlib.Core.Path.{_≡_};
+ghost use Rattle.octets.specs.Octets.{bytes, alike};
 ghost use Rattle.message.specs.Known.{orElse, knownOf, indexOf};
 ghost use Rattle.message.specs.declared.Known.the-variants.{Unknown};
 ghost use Rattle.names.specs.Names.{bitOf};
@@ -12,7 +13,15 @@ fn or_unknown(same: bool, k: message::Known) -> message::Known
     if same { k } else { message::Known::Unknown }
 }
 
-// Which known name `n` is: no two of them are equally long. In the usual spelling most bytes are equal as they are.
+// A byte string is laid out where its function begins. This one is long enough to be laid out also when it is compiled,
+// so it stands here, and not among those that are compared with every name.
+fn is_active_request_id_list(n: &[u8]) -> bool
+    ensures { λ r. ⌜ r ≡ alike (now (n .entry)) (bytes "Active-Request-Id-List") ⌝ }
+{
+    octets::alike(n, b"Active-Request-Id-List")
+}
+
+// Which known name `n` is: no two of them are equally long.
 pub fn known(n: &[u8]) -> message::Known
     ensures { λ r. ⌜ r ≡ knownOf (now (n .entry)) ⌝ }
 {
@@ -39,7 +48,7 @@ pub fn known(n: &[u8]) -> message::Known
             message::Known::ChannelIdentifier,
         ),
         22 => or_unknown(
-            octets::alike(n, b"Active-Request-Id-List"),
+            is_active_request_id_list(n),
             message::Known::ActiveRequestIdList,
         ),
         _ => message::Known::Unknown,
@@ -65,6 +74,13 @@ pub const OTHER_NAME: u16 = 128;
 
 // The known ones together.
 const KNOWN_NAMES: u16 = 127;
+
+// The names that are ignored in SPEAK, in STOP and in any other method.
+pub const IGNORED_IN_SPEAK: u16 = ACTIVE_REQUEST_ID_LIST | OTHER_NAME;
+
+pub const IGNORED_IN_STOP: u16 = CONTENT_TYPE | KILL_ON_BARGE_IN | OTHER_NAME;
+
+pub const IGNORED_ELSEWHERE: u16 = ACTIVE_REQUEST_ID_LIST | IGNORED_IN_STOP;
 
 // A name's bit in the mask, and its number.
 pub fn bit(k: message::Known) -> u16
@@ -97,11 +113,14 @@ pub fn index(k: message::Known) -> usize
     }
 }
 
+// A message has at most so many fields.
+pub const MOST_FIELDS: usize = 32;
+
 // After `count` fields there may be one more, and its name `k`, if it is known, did not come yet.
 pub fn may_come(count: usize, mask: u16, k: message::Known) -> bool
     ensures { λ r. ⌜ r ≡ mayCome count mask k ⌝ }
 {
-    if count < 32 {
+    if count < MOST_FIELDS {
         mask & (bit(k) & KNOWN_NAMES) == 0
     } else {
         false

@@ -49,7 +49,8 @@ isBlank b = eqb b 32 || eqb b 9
 
 -- what a byte may be, a bit for each: digit, capital, name byte, value byte, blank
 abbrev pub classOf : ℕ → ℕ
-classOf b = cond (isDigit b) 1 0 + cond (isCapital b) 2 0 + cond (isName b) 4 0 + cond (isValue b) 8 0 + cond (isBlank b) 16 0
+classOf b = cond (isDigit b) 1 0 + cond (isCapital b) 2 0 + cond (isName b) 4 0 + cond (isValue b) 8 0 + cond
+    (isBlank b) 16 0
 
 -- a capital as its small letter, any other byte as it is
 abbrev pub lowered : ℕ → ℕ

@@ -1,7 +1,10 @@
 // What a byte may be: document 01, "Fields".
 ghost use mathlib.Core.Path.{_≡_};
+ghost use Prim.Native.Nat.{_+_, _≤_};
+ghost use lib.ListN.{length, drop};
 ghost use Rattle.lists.specs.Lists.{same};
 ghost use Rattle.octets.specs.Octets.{isDigit, lowered as loweredOf, alike as alikeOf, classes};
+ghost use Rattle.octets.specs.Steps.{packed};
 
 // The bits of a byte's class.
 pub const DIGIT: u8 = 1;
@@ -303,13 +306,31 @@ pub fn lowered(b: u8) -> u8
     b + 32
 }
 
-pub fn equal(a: &[u8], b: &[u8]) -> bool
-    ensures { λ r. ⌜ r ≡ same (now (a .entry)) (now (b .entry)) ⌝ }
+// Four bytes as one number, the first the least. The compiler makes it one load.
+fn half(s: &[u8], at: usize) -> u64
+    requires { ⌜ at + 4 ≤ length (now s) ⌝ }
+    ensures { λ r. ⌜ r ≡ packed (now (s .entry)) at 0 4 ⌝ }
 {
-    if a.len() != b.len() {
-        return false;
-    }
-    let mut i: usize = 0;
+    s[at] as u64
+        + 256 * (s[at + 1] as u64)
+        + 65536 * (s[at + 2] as u64)
+        + 16777216 * (s[at + 3] as u64)
+}
+
+// Eight bytes.
+fn word(s: &[u8], at: usize) -> u64
+    requires { ⌜ at + 8 ≤ length (now s) ⌝ }
+    ensures { λ r. ⌜ r ≡ packed (now (s .entry)) at 0 8 ⌝ }
+{
+    half(s, at) + 4294967296 * half(s, at + 4)
+}
+
+// What is left of two texts from `at` on, byte by byte.
+fn equal_by_one(a: &[u8], b: &[u8], at: usize) -> bool
+    requires { ⌜ length (now a) ≡ length (now b) ⌝ }
+    ensures { λ r. ⌜ r ≡ same (drop at (now (a .entry))) (drop at (now (b .entry))) ⌝ }
+{
+    let mut i = at;
     while i < a.len() {
         if a[i] != b[i] {
             return false;
@@ -319,10 +340,43 @@ pub fn equal(a: &[u8], b: &[u8]) -> bool
     true
 }
 
-// Equal but for the case of letters. Bytes that are equal as they are need no small letters.
+// The same, the first four bytes at once where there are so many.
+fn equal_by_four(a: &[u8], b: &[u8], at: usize) -> bool
+    requires { ⌜ (length (now a) ≡ length (now b)) × (at ≤ length (now a)) ⌝ }
+    ensures { λ r. ⌜ r ≡ same (drop at (now (a .entry))) (drop at (now (b .entry))) ⌝ }
+{
+    if a.len() - at < 4 {
+        return equal_by_one(a, b, at);
+    }
+    if half(a, at) != half(b, at) {
+        return false;
+    }
+    equal_by_one(a, b, at + 4)
+}
+
+pub fn equal(a: &[u8], b: &[u8]) -> bool
+    ensures { λ r. ⌜ r ≡ same (now (a .entry)) (now (b .entry)) ⌝ }
+{
+    if a.len() != b.len() {
+        return false;
+    }
+    let mut i: usize = 0;
+    while 8 <= a.len() - i {
+        if word(a, i) != word(b, i) {
+            return false;
+        }
+        i += 8;
+    }
+    equal_by_four(a, b, i)
+}
+
+// Equal but for the case of letters. Texts that are equal as they are need no small letters.
 pub fn alike(a: &[u8], b: &[u8]) -> bool
     ensures { λ r. ⌜ r ≡ alikeOf (now (a .entry)) (now (b .entry)) ⌝ }
 {
+    if equal(a, b) {
+        return true;
+    }
     if a.len() != b.len() {
         return false;
     }

@@ -4,19 +4,48 @@ use mathlib.Core.Path.{_≡_}
 use mathlib.Core.List.{List, [], _∷_}
 use lib.ListN.{take}
 use Rattle.message.specs.Message.{Fields}
-use Rattle.answer.specs.Answers.{response}
+use Rattle.message.specs.declared.RequestState.{RequestState}
+use Rattle.answer.specs.Answers.{responseOf}
+use Rattle.synth.specs.Channel.{View, withQueue}
 use Rattle.synth.specs.Request.{Request}
+use Rattle.synth.specs.Judgement.{Verdict, late}
 use Rattle.synth.specs.States as S
+use Rattle.synth.specs.States.{afterLate}
 use Rattle.synth.specs.declared.Method.{Method}
-use Rattle.channel.specs.Channel.{view}
+use Rattle.synth.specs.declared.State.{State}
+use Rattle.queue.specs.Queue.{listOf}
+use Rattle.queue.specs.declared.Ids.{Ids}
+use Rattle.queue.specs.declared.Queue.{Queue}
 use Rattle.outcomes.specs.declared.Outcome.{Outcome}
 
 -- a request with the method m
 abbrev pub asked : ℕ → ℕ → Method → ℕ → Fields (List ℕ) → Request
 asked major minor m id fs = record { major = major; minor = minor; method = m; id = id; fields = fs }
 
--- on the channel with that name, it says and leaves what d has
-pub record Makes (name : List ℕ) (o : Outcome) (d : S.Outcome) : Type 0 where
-  pub says : response name (o .answer .id) (o .answer .status .code) (o .answer .state) (take (o .listing .count) (o .listing .ids)) ∷ [] ≡ d .says
-  pub left : view (o .listing .channel) ≡ d .next
-  pub few : o .listing .count ≤ 16
+-- the answer's id, status and state, the ids listed, and what is left
+abbrev pub outcome : ℕ → ℕ → RequestState → Ids → State → Queue → Outcome
+outcome id code progress listed state queue = record {
+  answer = record { id = id; status = record { code = code }; state = progress };
+  listed = listed;
+  state = state;
+  queue = queue;
+}
+
+-- on the channel v, o says and leaves what d has
+pub record Makes (v : View) (o : Outcome) (d : S.Outcome) : Type 0 where
+  pub says : responseOf (v .name) (o .answer) (take (o .listed .count) (o .listed .ids)) ∷ [] ≡ d .says
+  pub left : withQueue (o .state) (listOf (o .queue)) v ≡ d .next
+  pub few : o .listed .count ≤ 16
+
+-- on every channel in this state and with this queue, every request of this method and id that is told of comes to o, where these judgements
+-- are still ahead of it
+abbrev pub Comes : (View → Request → Verdict) → State → Queue → Method → ℕ → (Request → Type 0) → Outcome → Type 0
+Comes ahead state queue m id told o =
+    (v : View) (major minor : ℕ) (fs : Fields (List ℕ)) →
+    (let w : View = withQueue state (listOf queue) v in
+    let r : Request = asked major minor m id fs in
+    told r → Makes w o (afterLate (ahead w r) w r))
+
+-- from judgement 6 on
+abbrev pub Acts : State → Queue → Method → ℕ → (Request → Type 0) → Outcome → Type 0
+Acts = Comes late

@@ -4,8 +4,7 @@ ghost use Prim.Native.Nat.{_+_, _≤_};
 ghost use lib.ListN.{length};
 ghost use Rattle.writers.specs.Buffer.{Wrote};
 ghost use Rattle.answer.specs.Written.{written};
-ghost use Rattle.answer.specs.Answers.{response, speakComplete};
-ghost use Rattle.answer.specs.Causes.{causeNumber};
+ghost use Rattle.answer.specs.Answers.{responseOf, speakComplete};
 ghost use Rattle.output.specs.Delivery.{counted, delivered};
 
 // What a write returns: the count of bytes written, or that they are more than the lent output holds.
@@ -23,9 +22,10 @@ fn put_response(
     a: answer::Answer,
     ids: &[u32],
 ) -> usize
-    requires { ⌜ size ≡ length (written (response (now name) (a .id) (a .status .code) (a .state) (now ids))) ⌝ }
+    requires { ⌜ size ≡ length (written (responseOf (now name) a (now ids))) ⌝ }
     requires { ⌜ at + size ≤ length (now out) ⌝ }
-    ensures { λ r. ⌜ Wrote (now (out .entry)) at (written (response (now (name .entry)) (a .id) (a .status .code) (a .state) (now (ids .entry)))) (now (out .exit)) r ⌝ }
+    ensures { λ r. ⌜ Wrote (now (out .entry)) at (written (responseOf (now (name .entry)) a (now (ids .entry))))
+        (now (out .exit)) r ⌝ }
 {
     let p = pieces::put_opening(out, at, size);
     let q = pieces::put_response_line(out, p, a);
@@ -35,17 +35,11 @@ fn put_response(
 }
 
 // Writes the event that ends request `id`, whose size is `size`, at `at`; returns the place behind it.
-fn put_complete(
-    out: &mut [u8],
-    at: usize,
-    size: usize,
-    name: &[u8],
-    id: u32,
-    cause: answer::Cause,
-) -> usize
-    requires { ⌜ size ≡ length (written (speakComplete (now name) id (causeNumber cause))) ⌝ }
+fn put_complete(out: &mut [u8], at: usize, size: usize, name: &[u8], id: u32, cause: u32) -> usize
+    requires { ⌜ size ≡ length (written (speakComplete (now name) id cause)) ⌝ }
     requires { ⌜ at + size ≤ length (now out) ⌝ }
-    ensures { λ r. ⌜ Wrote (now (out .entry)) at (written (speakComplete (now (name .entry)) id (causeNumber cause))) (now (out .exit)) r ⌝ }
+    ensures { λ r. ⌜ Wrote (now (out .entry)) at (written (speakComplete (now (name .entry)) id cause))
+        (now (out .exit)) r ⌝ }
 {
     let p = pieces::put_opening(out, at, size);
     let q = pieces::put_event_line(out, p, id);
@@ -56,8 +50,9 @@ fn put_complete(
 
 // Writes the response at the front of `out`, or nothing where it is longer than `out`.
 pub fn respond(out: &mut [u8], name: &[u8], a: answer::Answer, ids: &[u32]) -> Written
-    ensures { λ r. ⌜ r ≡ counted (written (response (now (name .entry)) (a .id) (a .status .code) (a .state) (now (ids .entry)))) (now (out .entry)) ⌝ }
-    ensures { λ _. ⌜ now (out .exit) ≡ delivered (written (response (now (name .entry)) (a .id) (a .status .code) (a .state) (now (ids .entry)))) (now (out .entry)) ⌝ }
+    ensures { λ r. ⌜ r ≡ counted (written (responseOf (now (name .entry)) a (now (ids .entry)))) (now (out .entry)) ⌝ }
+    ensures { λ _. ⌜ now (out .exit)
+        ≡ delivered (written (responseOf (now (name .entry)) a (now (ids .entry)))) (now (out .entry)) ⌝ }
 {
     let size = sizes::response_size(name, a, ids, &out[..]);
     if out.len() < size {
@@ -68,9 +63,10 @@ pub fn respond(out: &mut [u8], name: &[u8], a: answer::Answer, ids: &[u32]) -> W
 }
 
 // Writes the event that ends request `id`, or nothing where it is longer than `out`.
-pub fn complete(out: &mut [u8], name: &[u8], id: u32, cause: answer::Cause) -> Written
-    ensures { λ r. ⌜ r ≡ counted (written (speakComplete (now (name .entry)) id (causeNumber cause))) (now (out .entry)) ⌝ }
-    ensures { λ _. ⌜ now (out .exit) ≡ delivered (written (speakComplete (now (name .entry)) id (causeNumber cause))) (now (out .entry)) ⌝ }
+pub fn complete(out: &mut [u8], name: &[u8], id: u32, cause: u32) -> Written
+    ensures { λ r. ⌜ r ≡ counted (written (speakComplete (now (name .entry)) id cause)) (now (out .entry)) ⌝ }
+    ensures { λ _. ⌜ now (out .exit)
+        ≡ delivered (written (speakComplete (now (name .entry)) id cause)) (now (out .entry)) ⌝ }
 {
     let size = sizes::complete_size(name, id, cause, &out[..]);
     if out.len() < size {

@@ -1,7 +1,8 @@
-// The pieces of a response or an event, each written into a lent output that has room for it: document 01, "Bytes written".
-ghost use mathlib.Core.List.{_++_};
+// The pieces of a response or an event, each written into a lent output that has room for it: document 01, "Bytes
+// written".
+ghost use mathlib.Core.List.{[], _++_};
 ghost use Prim.Native.Nat.{_+_, _≤_};
-ghost use lib.ListN.{length};
+ghost use lib.ListN.{length, getD};
 ghost use Rattle.octets.specs.Octets.{bytes, crlf};
 ghost use Rattle.writers.specs.Decimal.{width};
 ghost use Rattle.writers.specs.Buffer.{Wrote};
@@ -10,8 +11,7 @@ ghost use Rattle.message.specs.StartLines.{stateText};
 ghost use Rattle.message.specs.declared.RequestState.{RequestState};
 ghost use Rattle.answer.specs.Written.{startText, fieldText, fieldsText};
 ghost use Rattle.answer.specs.IdList.{behindCommas};
-ghost use Rattle.answer.specs.Answers.{channelIdentifier, activeRequestIdList, completionCause};
-ghost use Rattle.answer.specs.Causes.{causeNumber};
+ghost use Rattle.answer.specs.Answers.{channelIdentifier, activeRequestIdList, causeNames, completionCause};
 ghost use Rattle.pieces.specs.Steps.{openingText};
 
 fn put_state(out: &mut [u8], at: usize, state: message::RequestState) -> usize
@@ -38,7 +38,8 @@ pub fn put_opening(out: &mut [u8], at: usize, size: usize) -> usize
 // The rest of a response's start line.
 pub fn put_response_line(out: &mut [u8], at: usize, a: answer::Answer) -> usize
     requires { ⌜ at + (7 + width (a .id) + length (stateText (a .state))) ≤ length (now out) ⌝ }
-    ensures { λ r. ⌜ Wrote (now (out .entry)) at (startText (responseLine (a .id) (a .status .code) (a .state)) ++ crlf) (now (out .exit)) r ⌝ }
+    ensures { λ r. ⌜ Wrote (now (out .entry)) at (startText (responseLine (a .id) (a .status .code) (a .state)) ++ crlf)
+        (now (out .exit)) r ⌝ }
 {
     let state = a.state;
     let p = writers::put_digits(out, at, a.id as u64);
@@ -52,7 +53,8 @@ pub fn put_response_line(out: &mut [u8], at: usize, a: answer::Answer) -> usize
 // The rest of the event's start line.
 pub fn put_event_line(out: &mut [u8], at: usize, id: u32) -> usize
     requires { ⌜ at + (26 + width id) ≤ length (now out) ⌝ }
-    ensures { λ r. ⌜ Wrote (now (out .entry)) at (startText (eventLine (bytes "SPEAK-COMPLETE") id RequestState.Complete) ++ crlf) (now (out .exit)) r ⌝ }
+    ensures { λ r. ⌜ Wrote (now (out .entry)) at
+        (startText (eventLine (bytes "SPEAK-COMPLETE") id RequestState.Complete) ++ crlf) (now (out .exit)) r ⌝ }
 {
     let p = writers::put_bytes(out, at, b"SPEAK-COMPLETE ");
     let q = writers::put_digits(out, p, id as u64);
@@ -61,7 +63,8 @@ pub fn put_event_line(out: &mut [u8], at: usize, id: u32) -> usize
 
 pub fn put_channel_identifier(out: &mut [u8], at: usize, name: &[u8]) -> usize
     requires { ⌜ at + (21 + length (now name)) ≤ length (now out) ⌝ }
-    ensures { λ r. ⌜ Wrote (now (out .entry)) at (fieldText (channelIdentifier (now (name .entry)))) (now (out .exit)) r ⌝ }
+    ensures { λ r. ⌜ Wrote (now (out .entry)) at (fieldText (channelIdentifier (now (name .entry))))
+        (now (out .exit)) r ⌝ }
 {
     let p = writers::put_bytes(out, at, b"Channel-Identifier:");
     let q = writers::put_bytes(out, p, name);
@@ -86,7 +89,8 @@ fn put_behind_commas(out: &mut [u8], at: usize, ids: &[u32]) -> usize
 // The list field; nothing where there is nothing to list.
 pub fn put_id_list(out: &mut [u8], at: usize, ids: &[u32]) -> usize
     requires { ⌜ at + length (fieldsText (activeRequestIdList (now ids))) ≤ length (now out) ⌝ }
-    ensures { λ r. ⌜ Wrote (now (out .entry)) at (fieldsText (activeRequestIdList (now (ids .entry)))) (now (out .exit)) r ⌝ }
+    ensures { λ r. ⌜ Wrote (now (out .entry)) at (fieldsText (activeRequestIdList (now (ids .entry))))
+        (now (out .exit)) r ⌝ }
 {
     if ids.len() == 0 {
         return at;
@@ -97,38 +101,25 @@ pub fn put_id_list(out: &mut [u8], at: usize, ids: &[u32]) -> usize
     writers::put_bytes(out, r, b"\r\n")
 }
 
-pub fn put_completion_cause(out: &mut [u8], at: usize, cause: answer::Cause) -> usize
-    requires { ⌜ at + (19 + length (completionCause (causeNumber cause) .value)) ≤ length (now out) ⌝ }
-    ensures { λ r. ⌜ Wrote (now (out .entry)) at (fieldText (completionCause (causeNumber cause))) (now (out .exit)) r ⌝ }
+// A cause's name; nothing where there is no such cause.
+fn put_cause_name(out: &mut [u8], at: usize, cause: u32) -> usize
+    requires { ⌜ at + length (getD causeNames cause []) ≤ length (now out) ⌝ }
+    ensures { λ r. ⌜ Wrote (now (out .entry)) at (getD causeNames cause []) (now (out .exit)) r ⌝ }
 {
-    match cause {
-        answer::Cause::Normal => writers::put_bytes(out, at, b"Completion-Cause:000 normal\r\n"),
-        answer::Cause::BargeIn => writers::put_bytes(out, at, b"Completion-Cause:001 barge-in\r\n"),
-        answer::Cause::ParseFailure => writers::put_bytes(
-            out,
-            at,
-            b"Completion-Cause:002 parse-failure\r\n",
-        ),
-        answer::Cause::UriFailure => writers::put_bytes(
-            out,
-            at,
-            b"Completion-Cause:003 uri-failure\r\n",
-        ),
-        answer::Cause::Error => writers::put_bytes(out, at, b"Completion-Cause:004 error\r\n"),
-        answer::Cause::LanguageUnsupported => writers::put_bytes(
-            out,
-            at,
-            b"Completion-Cause:005 language-unsupported\r\n",
-        ),
-        answer::Cause::LexiconLoadFailure => writers::put_bytes(
-            out,
-            at,
-            b"Completion-Cause:006 lexicon-load-failure\r\n",
-        ),
-        answer::Cause::Cancelled => writers::put_bytes(
-            out,
-            at,
-            b"Completion-Cause:007 cancelled\r\n",
-        ),
-    }
+    let names = answer::cause_names();
+    let place = answer::cause_place(cause);
+    let start = place.start;
+    let end = start + place.len;
+    writers::put_bytes(out, at, &names[start..end])
+}
+
+pub fn put_completion_cause(out: &mut [u8], at: usize, cause: u32) -> usize
+    requires { ⌜ at + (19 + length (completionCause cause .value)) ≤ length (now out) ⌝ }
+    ensures { λ r. ⌜ Wrote (now (out .entry)) at (fieldText (completionCause cause)) (now (out .exit)) r ⌝ }
+{
+    let p = writers::put_bytes(out, at, b"Completion-Cause:");
+    let q = writers::put_three(out, p, cause);
+    let r = writers::put_bytes(out, q, b" ");
+    let s = put_cause_name(out, r, cause);
+    writers::put_bytes(out, s, b"\r\n")
 }

@@ -1,15 +1,26 @@
--- The queue of a channel: which entries a mask marks, and what is listed.
-use Prim.Native.Nat.{ℕ, suc, _≤_}
+-- The queue that the code keeps, as document 01 has it; which entries a mask marks; which ids are listed.
+use Prim.Native.Nat.{ℕ, suc, _-_, _≤_}
 use mathlib.Core.Path.{_≡_}
-use mathlib.Core.Bool.{Bool, Bool·beq}
-use mathlib.Core.List.{List, [], _∷_}
+use mathlib.Core.Bool.{Bool, true, false, Bool·beq}
+use mathlib.Core.List.{List, [], _∷_, _++_}
 use lib.ListN.{length, take, replicate}
 use Rattle.lists.specs.Lists.{put, bit}
-use Rattle.synth.specs.Channel.{View}
+use Rattle.synth.specs.Channel.{ids}
 use Rattle.synth.specs.declared.Entry.{Entry}
-use Rattle.channel.specs.Channel.{view, noEntry}
-use Rattle.channel.specs.declared.Channel.{Channel}
-use Rattle.queue.specs.declared.Listing.{Listing}
+use Rattle.queue.specs.declared.Queue.{Queue}
+use Rattle.queue.specs.declared.Ids.{Ids}
+use Rattle.queue.specs.declared.Ended.{Ended}
+
+-- what the array holds past the count
+abbrev pub noEntry : Entry
+noEntry = record { id = 0; kill = false }
+
+-- the outstanding SPEAKs. A count past the array's length is seen too, so that no such queue looks sound
+unfoldable pub listOf : Queue → List Entry
+listOf q = take (q .count) (q .entries) ++ replicate (q .count - 16) noEntry
+
+abbrev pub emptyQueue : Queue
+emptyQueue = record { entries = replicate 16 noEntry; count = 0 }
 
 -- the active one, where there is one
 abbrev pub first : List Entry → Entry
@@ -21,19 +32,16 @@ abbrev pub marked : Bool → ℕ → ℕ → List Entry → List Entry
 marked want mask j [] = []
 marked want mask j (e ∷ queue) = put (Bool·beq (bit mask j) want) e (marked want mask (suc j) queue)
 
--- the first `count` entries of an array are those of `queue`
-pub record Holds (entries : List Entry) (count : ℕ) (queue : List Entry) : Type 0 where
-  pub held : take count entries ≡ queue
-  pub counted : count ≡ length queue
-  pub few : count ≤ 16
+abbrev pub noIds : Ids
+noIds = record { ids = replicate 16 0; count = 0 }
 
--- nothing listed, and the channel as it was
-abbrev pub listsNone : Channel → Listing
-listsNone c = record { ids = replicate 16 0; count = 0; channel = c }
-
--- these ids are listed, and the channel is seen so afterwards
-pub record Lists (listed : List ℕ) (next : View) (r : Listing) : Type 0 where
+-- these ids are listed
+pub record Lists (listed : List ℕ) (r : Ids) : Type 0 where
   pub shown : take (r .count) (r .ids) ≡ listed
   pub counted : r .count ≡ length listed
   pub few : r .count ≤ 16
-  pub left : view (r .channel) ≡ next
+
+-- of a queue, those that the mask marks are listed, and the others remain
+pub record Ends (mask : ℕ) (queue : List Entry) (r : Ended) : Type 0 where
+  pub lists : Lists (ids (marked true mask 0 queue)) (r .listed)
+  pub left : listOf (r .queue) ≡ marked false mask 0 queue

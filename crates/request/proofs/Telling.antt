@@ -1,31 +1,107 @@
--- What the steps say of a request, by what is seen of its fields, is what the judgement asks of it.
+-- A header that was read tells what the definitions say of its fields; and what the judgement asks of a request is told
+-- with it.
 -- Assumes nothing.
-use mathlib.Core.Path.{_≡_, refl, ap, _∙_}
-use mathlib.Core.Bool.{Bool, true, false, not, _&&_}
+use mathlib.Core.Path.{_≡_, refl, sym, ap, _∙_}
+use mathlib.Core.Bool.{Bool, true, false, not, false≢true}
+use mathlib.Core.Option.{none, some}
 use mathlib.Core.List.{List, [], _∷_, map}
-use Prim.Native.Nat.{ℕ}
+use Prim.Native.Nat.{ℕ, _+_}
+use native.Mathlib.Omega.{arith}
+use lib.Bits.{bitAnd, and-zero-l}
 use lib.Dec.{eqb}
-use lib.ListN.{getD}
-use Rattle.lists.specs.Lists.{all, bit}
-use Rattle.message.specs.Message.{Fields, fieldsIn, part}
-use Rattle.message.specs.Known.{indexOf, namesOf}
+use lib.ListN.{length, getD, replicate, length-take, length-drop}
+use borrow.Author.Tests.{eq-eqb, ne-eqb}
+use Rattle.lists.specs.Lists.{all, isEmpty, bit}
+use Rattle.message.specs.Message.{Field, Fields, bad, good, fieldsIn, part, onField, onFields}
+use Rattle.message.specs.Known.{indexOf, isKnown, onceEach, namesOf, valueOf}
 use Rattle.message.specs.declared.Span.{Span}
 use Rattle.message.specs.declared.Known.{Known}
-use Rattle.message.specs.declared.Known.the-variants.{ChannelIdentifier, ContentLength, ContentType, ActiveRequestIdList, KillOnBargeIn, ProxySyncId, LoggingTag, Unknown}
-use Rattle.synth.specs.Request.{Request, isSpeak, isStop, ignored, acting, ignoresAny}
-use Rattle.synth.specs.Judgement.{given, anything, isSpeechType, content, _then_, unless}
+use Rattle.message.specs.declared.Known.the-variants.{ChannelIdentifier, ContentLength, ContentType}
+use Rattle.message.specs.declared.Known.the-variants.{ActiveRequestIdList, KillOnBargeIn, ProxySyncId, LoggingTag}
+use Rattle.message.specs.declared.Known.the-variants.{Unknown}
+use Rattle.message.proofs.Says.{Judged}
+use Rattle.names.specs.Names.{bitOf, namesIn}
+use Rattle.names.specs.Steps.{knownBit}
+use Rattle.names.proofs.Theorems.NamesOfASet.{none-of-set}
+use Rattle.header.specs.Header.{nowhere, headerOf}
+use Rattle.header.specs.declared.Header.{Header}
+use Rattle.header.proofs.Theorems.ValueByMask.{value-by-mask}
+use Rattle.synth.specs.Request.{ignored, ignoresAny}
 use Rattle.synth.specs.declared.Method.{Method}
-use Rattle.values.specs.Values.{givenOf, killOf, verdictOf}
-use Rattle.request.specs.Telling.{Tells}
-use Rattle.values.specs.Steps.{meets, contentBy}
-use Rattle.request.specs.Steps.{inSpeak, inStop, elsewhere, factsOf}
+use Rattle.values.specs.Values.{givenOf}
+use Rattle.values.specs.Steps.{meets, givenBy}
 use Rattle.values.specs.declared.Given.{Given}
-use Rattle.request.specs.declared.Seen.{Seen}
-use Rattle.request.proofs.Seeing.{Sees}
+use Rattle.request.specs.Telling.{Tells, valueBy}
+
+-- a known name's bit is its own
+own-bit : (k : Known) → isKnown k ≡ true → bitOf k ≡ knownBit k
+own-bit ChannelIdentifier e = refl
+own-bit ContentLength e = refl
+own-bit ContentType e = refl
+own-bit ActiveRequestIdList e = refl
+own-bit KillOnBargeIn e = refl
+own-bit ProxySyncId e = refl
+own-bit LoggingTag e = refl
+own-bit Unknown e = absurd (false≢true e)
+
+module _ (f : List ℕ) where
+  none-came : (k : Known) → givenOf f (valueBy (headerOf f bad) k) ≡ none
+  none-came k = ap (λ n. givenOf f
+      (elim (not (eqb n 0)) [
+        | true ↦ Given.At
+            (getD (replicate 16 nowhere) (indexOf k) nowhere)
+        | false ↦ Given.Nothing
+      ])) (and-zero-l (bitOf k))
+
+  nothing : Tells f (headerOf f bad) bad
+  unfolding valueOf
+  nothing = record {
+    good = refl;
+    value = λ k known. none-came k;
+    body = refl;
+    names = λ set. ap (λ n. not (eqb n 0))
+        (and-zero-l set);
+  }
+
+  by-place : (p : Span) (t : Bool)
+      → givenOf f (elim (not t) [ true ↦ Given.At p | false ↦ Given.Nothing ])
+      ≡ elim t [ true ↦ none | false ↦ some (part f p) ]
+  by-place p true = refl
+  by-place p false = refl
+
+  none-left : (l : List ℕ) (n : ℕ) → n ≡ length l → eqb n 0 ≡ isEmpty l
+  none-left [] n e = eq-eqb n 0 e
+  none-left (x ∷ l) n e = ne-eqb n 0 (λ z. let q : n ≡ 0 = z in omega arith)
+
+  module _ (fs : List (Field Span)) (body : Span) (once : onceEach (namesIn f fs) ≡ true)
+      (ends : body .start + body .len ≡ length f) where
+    abbrev h : Header
+    h = headerOf f (good fs body)
+
+    valued : (k : Known) → isKnown k ≡ true → givenOf f (valueBy h k) ≡ valueOf k (map (onField (part f)) fs)
+    valued k known =
+        let p : Span = getD (h .values) (indexOf k) nowhere in
+        ap (λ b. givenOf f (givenBy (h .mask) b p)) (own-bit k known)
+        ∙ by-place p (eqb (bitAnd (h .mask) (knownBit k)) 0)
+        ∙ sym (value-by-mask f fs body once k known)
+
+    something : Tells f h (onFields (part f) (good fs body))
+    something = record {
+      good = refl;
+      value = valued;
+      body = none-left (part f body) (body .len) (simp (length-take, length-drop) (omega arith));
+      names = λ set. ap not (none-of-set set (namesIn f fs));
+    }
+
+  pub tells : (at : ℕ) (x : Fields Span) → Judged f at x → Tells f (headerOf f x) (onFields (part f) x)
+  tells at bad j = nothing
+  tells at (good fs body) j = something fs body (j .once) (j .ends)
 
 -- tests that agree on the list of all names agree on each
-abbrev each : List Known
-each = ChannelIdentifier ∷ ContentLength ∷ ContentType ∷ ActiveRequestIdList ∷ KillOnBargeIn ∷ ProxySyncId ∷ LoggingTag ∷ Unknown ∷ []
+abbrev pub each : List Known
+each =
+    ChannelIdentifier ∷ ContentLength ∷ ContentType ∷ ActiveRequestIdList ∷ KillOnBargeIn ∷ ProxySyncId ∷ LoggingTag
+    ∷ Unknown ∷ []
 
 on-each : (a b : Known → Bool) → map a each ≡ map b each → (k : Known) → a k ≡ b k
 on-each a b e ChannelIdentifier = ap (λ l. getD l 0 true) e
@@ -37,70 +113,12 @@ on-each a b e ProxySyncId = ap (λ l. getD l 5 true) e
 on-each a b e LoggingTag = ap (λ l. getD l 6 true) e
 on-each a b e Unknown = ap (λ l. getD l 7 true) e
 
--- judgement 9, by what the code tests
-judged : (f : List ℕ) (p : Span) (sized typed empty : Bool)
-    → verdictOf (contentBy sized typed empty (isSpeechType (part f p)))
-    ≡ (unless (sized && given anything (givenOf f (elim typed [ true ↦ Given.At p | false ↦ Given.Nothing ]))) 406
-    then unless (not empty) 408
-    then unless (given isSpeechType (givenOf f (elim typed [ true ↦ Given.At p | false ↦ Given.Nothing ]))) 409)
-unfolding unless _then_
-judged f p false typed empty = refl
-judged f p true false empty = refl
-judged f p true true true = refl
-judged f p true true false = go (isSpeechType (part f p))
-  where
-    go : (t : Bool) → verdictOf (contentBy true true false t) ≡ unless t 409
-    go true = refl
-    go false = refl
-
-module _ (f : List ℕ) (s : Seen) (fs : Fields (List ℕ)) (w : Sees f s fs) (major minor id : ℕ) where
-  abbrev asked : Method → Request
-  asked m = record { major = major; minor = minor; method = m; id = id; fields = fs }
-
-  ignores : (m : Method) (set : ℕ) → map (λ k. bit set (indexOf k)) each ≡ map (ignored m) each → meets (s .mask) set ≡ ignoresAny (asked m)
-  unfolding ignoresAny
-  ignores m set e =
-      w .names set ∙ (λ z. not (all (λ k. not (on-each (λ k. bit set (indexOf k)) (ignored m) e k z)) (namesOf (fieldsIn fs))))
-
-  speaks : Tells f (inSpeak f s) (asked Method.Speak)
-  unfolding acting content
-  speaks = record {
-    good = w .judged;
-    name = w .name;
-    list = refl;
-    kill = ap killOf (w .kill);
-    content = judged f (s .media) (meets (s .mask) 2) (meets (s .mask) 4) (eqb (s .body) 0)
-        ∙ (λ z. unless (w .sized z && given anything (w .media z)) 406 then unless (not (w .body z)) 408 then unless (given isSpeechType (w .media z)) 409);
-    ignored = ignores Method.Speak 136 refl;
-  }
-
-  stops : Tells f (inStop s) (asked Method.Stop)
-  unfolding acting content
-  stops = record {
-    good = w .judged;
-    name = w .name;
-    list = w .list;
-    kill = refl;
-    content = refl;
-    ignored = ignores Method.Stop 148 refl;
-  }
-
-  others : (m : Method) → isSpeak m ≡ false → isStop m ≡ false → map (λ k. bit 156 (indexOf k)) each ≡ map (ignored m) each → Tells f (elsewhere s) (asked m)
-  unfolding acting content
-  others m no-speak no-stop e = record {
-    good = w .judged;
-    name = w .name;
-    list = rw no-stop;
-    kill = rw no-speak;
-    content = rw no-speak;
-    ignored = ignores m 156 e;
-  }
-
-  pub tells : (m : Method) → Tells f (factsOf f m s) (asked m)
-  tells Method.Speak = speaks
-  tells Method.Stop = stops
-  tells Method.Pause = others Method.Pause refl refl refl
-  tells Method.Resume = others Method.Resume refl refl refl
-  tells Method.Control = others Method.Control refl refl refl
-  tells Method.BargeInOccurred = others Method.BargeInOccurred refl refl refl
-  tells Method.Unknown = others Method.Unknown refl refl refl
+-- a set of the names that are ignored in a method tells whether the request ignores one
+pub ignores : (f : List ℕ) (h : Header) (fs : Fields (List ℕ)) → Tells f h fs
+    → (major minor id : ℕ) (m : Method) (set : ℕ)
+    → map (λ k. bit set (indexOf k)) each ≡ map (ignored m) each
+    → meets (h .mask) set ≡ ignoresAny (record { major = major; minor = minor; method = m; id = id; fields = fs })
+unfolding ignoresAny
+ignores f h fs w major minor id m set e =
+    w .names set ∙ (λ z. not
+    (all (λ k. not (on-each (λ k. bit set (indexOf k)) (ignored m) e k z)) (namesOf (fieldsIn fs))))

@@ -1,18 +1,30 @@
--- What the code tells of a request's fields, in the terms of the judgement.
+-- What a header tells of the fields that were read, in the terms of the judgement.
 use Prim.Native.Nat.{ℕ}
 use mathlib.Core.Path.{_≡_}
+use mathlib.Core.Bool.{true, not}
 use mathlib.Core.List.{List}
-use Rattle.message.specs.declared.Known.the-variants.{ChannelIdentifier, ActiveRequestIdList, KillOnBargeIn}
-use Rattle.synth.specs.Request.{Request, isGood, acting, ignoresAny}
-use Rattle.synth.specs.Judgement.{content}
-use Rattle.values.specs.Values.{givenOf, killOf, verdictOf}
-use Rattle.request.specs.declared.Facts.{Facts}
+use lib.Dec.{eqb}
+use lib.ListN.{getD}
+use Rattle.lists.specs.Lists.{all, isEmpty, bit}
+use Rattle.message.specs.Message.{Fields, fieldsIn}
+use Rattle.message.specs.Known.{indexOf, isKnown, namesOf, valueOf}
+use Rattle.message.specs.Reading.{bodyIn}
+use Rattle.message.specs.declared.Known.{Known}
+use Rattle.names.specs.Names.{bitOf}
+use Rattle.header.specs.Header.{nowhere}
+use Rattle.header.specs.declared.Header.{Header}
+use Rattle.synth.specs.Request.{isGood}
+use Rattle.values.specs.Values.{givenOf}
+use Rattle.values.specs.Steps.{meets, givenBy}
+use Rattle.values.specs.declared.Given.{Given}
 
--- what is told of the request r, whose frame is f
-pub record Tells (f : List ℕ) (q : Facts) (r : Request) : Type 0 where
-  pub good : q .good ≡ isGood (r .fields)
-  pub name : givenOf f (q .name) ≡ acting ChannelIdentifier r
-  pub list : givenOf f (q .list) ≡ acting ActiveRequestIdList r
-  pub kill : q .kill ≡ killOf (acting KillOnBargeIn r)
-  pub content : verdictOf (q .content) ≡ content r
-  pub ignored : q .ignored ≡ ignoresAny r
+-- the value of the name k, by its bit in the mask and its place
+abbrev pub valueBy : Header → Known → Given
+valueBy h k = givenBy (h .mask) (bitOf k) (getD (h .values) (indexOf k) nowhere)
+
+-- what a header tells of the fields fs, whose frame is f
+pub record Tells (f : List ℕ) (h : Header) (fs : Fields (List ℕ)) : Type 0 where
+  pub good : h .good ≡ isGood fs
+  pub value : (k : Known) → isKnown k ≡ true → givenOf f (valueBy h k) ≡ valueOf k (fieldsIn fs)
+  pub body : eqb (h .body .len) 0 ≡ isEmpty (bodyIn fs)
+  pub names : (set : ℕ) → meets (h .mask) set ≡ not (all (λ k. not (bit set (indexOf k))) (namesOf (fieldsIn fs)))

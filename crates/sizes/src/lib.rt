@@ -1,4 +1,5 @@
-// How many bytes responses and events have, counted up to one more than the lent output holds: document 01, "Bytes written" and refusal 7.
+// How many bytes responses and events have, counted up to one more than the lent output holds: document 01, "Bytes
+// written" and refusal 7.
 ghost use mathlib.Core.Path.{_≡_};
 ghost use Prim.Native.Nat.{_+_, _^_, _≤_, _<_, min};
 ghost use lib.ListN.{length};
@@ -6,8 +7,7 @@ ghost use Rattle.writers.specs.SelfLength.{selfLength};
 ghost use Rattle.message.specs.StartLines.{stateText};
 ghost use Rattle.answer.specs.Written.{fieldsText, written};
 ghost use Rattle.answer.specs.IdList.{behindCommas};
-ghost use Rattle.answer.specs.Answers.{activeRequestIdList, completionCause, response, speakComplete};
-ghost use Rattle.answer.specs.Causes.{causeNumber};
+ghost use Rattle.answer.specs.Answers.{activeRequestIdList, completionCause, responseOf, speakComplete};
 
 // How many bytes the word of a state has.
 fn state_width(state: message::RequestState) -> usize
@@ -21,19 +21,11 @@ fn state_width(state: message::RequestState) -> usize
 }
 
 // How many bytes a cause's number and name have.
-fn cause_width(cause: answer::Cause) -> usize
-    ensures { λ r. ⌜ (r ≡ length (completionCause (causeNumber cause) .value)) × (r ≤ 24) ⌝ }
+fn cause_width(cause: u32) -> usize
+    ensures { λ r. ⌜ (r ≡ length (completionCause cause .value)) × (r ≤ 96) ⌝ }
 {
-    match cause {
-        answer::Cause::Normal => 10,
-        answer::Cause::BargeIn => 12,
-        answer::Cause::ParseFailure => 17,
-        answer::Cause::UriFailure => 15,
-        answer::Cause::Error => 9,
-        answer::Cause::LanguageUnsupported => 24,
-        answer::Cause::LexiconLoadFailure => 24,
-        answer::Cause::Cancelled => 13,
-    }
+    let place = answer::cause_place(cause);
+    4 + place.len
 }
 
 // The size of the ids, each with a comma before it, or cap + 1 where it is above cap.
@@ -68,8 +60,8 @@ fn list_size(ids: &[u32], cap: usize) -> usize
     n
 }
 
-// The size of a message with the fields Channel-Identifier and others, and no body, where the words of its start line and the other fields
-// have `rest` bytes; or cap + 1 where it is above cap.
+// The size of a message with the fields Channel-Identifier and others, and no body, where the words of its start line
+// and the other fields have `rest` bytes; or cap + 1 where it is above cap.
 fn message_size(name: &[u8], rest: usize, cap: usize) -> usize
     requires { ⌜ cap < 2 ^ 63 ⌝ }
     ensures { λ r. ⌜ r ≡ min (selfLength (35 + length (now (name .entry)) + rest)) (cap + 1) ⌝ }
@@ -89,7 +81,8 @@ fn message_size(name: &[u8], rest: usize, cap: usize) -> usize
 
 // The size of the response, or one more than `out` holds where it is longer.
 pub fn response_size(name: &[u8], a: answer::Answer, ids: &[u32], out: &[u8]) -> usize
-    ensures { λ r. ⌜ r ≡ min (length (written (response (now (name .entry)) (a .id) (a .status .code) (a .state) (now (ids .entry))))) (length (now (out .entry)) + 1) ⌝ }
+    ensures { λ r. ⌜ r ≡ min (length (written (responseOf (now (name .entry)) a (now (ids .entry)))))
+        (length (now (out .entry)) + 1) ⌝ }
 {
     let cap = out.len();
     let state = a.state;
@@ -99,8 +92,9 @@ pub fn response_size(name: &[u8], a: answer::Answer, ids: &[u32], out: &[u8]) ->
 }
 
 // The size of the event that ends request `id`, or one more than `out` holds where it is longer.
-pub fn complete_size(name: &[u8], id: u32, cause: answer::Cause, out: &[u8]) -> usize
-    ensures { λ r. ⌜ r ≡ min (length (written (speakComplete (now (name .entry)) id (causeNumber cause)))) (length (now (out .entry)) + 1) ⌝ }
+pub fn complete_size(name: &[u8], id: u32, cause: u32, out: &[u8]) -> usize
+    ensures { λ r. ⌜ r ≡ min (length (written (speakComplete (now (name .entry)) id cause)))
+        (length (now (out .entry)) + 1) ⌝ }
 {
     let cap = out.len();
     let words = 24 + writers::width(id as u64);

@@ -11,15 +11,15 @@ use Rattle.message.specs.Message.{Start, request, response, event, Field, Readi
 use Rattle.message.specs.StartLines.{startLine}
 use Rattle.message.specs.Fields.{fieldLine}
 use Rattle.message.specs.Known.{knownOf, valueOf}
-use Rattle.message.specs.Reading.{fieldsFrom, reading, heard}
+use Rattle.message.specs.Reading.{fieldsFrom, reading, readBytes}
 use Rattle.answer.specs.Written.{startText, fieldText, fieldsText, afterLength, written, writtenAll}
 use Rattle.answer.specs.IdList.{isIdList, idsOf, behindCommas, idListText}
 use Rattle.answer.specs.Answers as A
 use Rattle.answer.specs.Answers.{speakComplete}
-use Rattle.ledger.specs.Ledger.{Seen, after, trace}
+use Rattle.ledger.specs.Ledger.{Exchange, after, trace}
 use Rattle.synth.specs.Channel.{View, wellNamed, sound}
 use Rattle.synth.specs.Request.{Request, methodOf, acting, ignoresAny}
-use Rattle.synth.specs.Judgement.{_then_, unless, version, wellFormed, addressed, ours, above, legal, amongSix, valid, content, room, success, early, late}
+use Rattle.synth.specs.Judgement.{_then_, unless, version, wellFormed, addressed, ours, above, legal, amongSix, valid, content, capacity, success, early, late}
 use Rattle.synth.specs.States.{Outcome, act, judge}
 use Rattle.synth.specs.declared.State.{State}
 use Rattle.synth.specs.declared.Entry.{Entry}
@@ -28,8 +28,8 @@ use Rattle.synth.specs.Calls.{Call, Reply, input, cause, deliver, call, 
 
 -- what a reader hears of bytes, and of a text
 unfoldable pub hearsBytes : List ℕ → Reading (List ℕ)
-unfolding heard reading framing opening startLine fieldLine fieldsFrom knownOf valueOf
-hearsBytes s = heard s
+unfolding readBytes reading framing opening startLine fieldLine fieldsFrom knownOf valueOf
+hearsBytes s = readBytes s
 
 abbrev pub hears : String → Reading (List ℕ)
 hears text = hearsBytes (bytes text)
@@ -67,20 +67,20 @@ abbrev pub reports : ℕ → Call
 reports n = record { lent = cause n; room = 305 }
 
 unfoldable pub replies : View → List Call → List Reply
-unfolding heard reading framing opening startLine fieldLine fieldsFrom knownOf valueOf startText fieldText fieldsText afterLength written writtenAll
+unfolding readBytes reading framing opening startLine fieldLine fieldsFrom knownOf valueOf startText fieldText fieldsText afterLength written writtenAll
     digits digitsWithin threeDigits selfLength isIdList idsOf behindCommas idListText A.response speakComplete wellNamed sound methodOf acting
-    ignoresAny _then_ unless version wellFormed addressed ours above legal amongSix valid content room success early late act judge deliver call
-replies v calls = map (λ (x : Seen Call Reply). x .reply) (trace call v calls)
+    ignoresAny _then_ unless version wellFormed addressed ours above legal amongSix valid content capacity success early late act judge deliver call
+replies v calls = map (λ (x : Exchange Call Reply). x .reply) (trace call v calls)
 
 -- what a request comes to
 unfoldable pub judges : View → Request → Outcome
 unfolding knownOf valueOf digits digitsWithin isIdList idsOf behindCommas idListText A.response acting ignoresAny _then_ unless version wellFormed addressed ours
-    above legal amongSix valid content room success early late act judge
+    above legal amongSix valid content capacity success early late act judge
 judges v r = judge v r
 
 -- the channel after the calls
 unfoldable pub leaves : View → List Call → View
-unfolding heard reading framing opening startLine fieldLine fieldsFrom knownOf valueOf startText fieldText fieldsText afterLength written writtenAll
+unfolding readBytes reading framing opening startLine fieldLine fieldsFrom knownOf valueOf startText fieldText fieldsText afterLength written writtenAll
     digits digitsWithin threeDigits selfLength isIdList idsOf behindCommas idListText A.response speakComplete wellNamed sound methodOf acting
-    ignoresAny _then_ unless version wellFormed addressed ours above legal amongSix valid content room success early late act judge deliver call
+    ignoresAny _then_ unless version wellFormed addressed ours above legal amongSix valid content capacity success early late act judge deliver call
 leaves v calls = after call v calls

@@ -13,7 +13,7 @@ use Rattle.message.specs.declared.Known.the-variants.{ActiveRequestIdList}
 use Rattle.message.specs.declared.RequestState.the-variants.{Complete}
 use Rattle.synth.specs.Channel.{View, withLast, ids, held, isIdle, firstAbove}
 use Rattle.synth.specs.Request.{Request, isSpeak, acting}
-use Rattle.synth.specs.Judgement.{Verdict, passes, fails, isValid, above, valid, room, early, late}
+use Rattle.synth.specs.Judgement.{Verdict, passes, fails, isValid, above, valid, capacity, early, late}
 use Rattle.synth.specs.States.{succeeded, speak, whileAny, ends, stop, bargeIn, active, pause, resume, control, act, afterLate, afterEarly, judge}
 use Rattle.synth.specs.declared.State.{State}
 use Rattle.synth.specs.declared.State.the-variants.{Idle, Speaking, Paused}
@@ -100,7 +100,7 @@ module _ (v : View) (f : Facts v) (r : Request) (small : r .id < 4294967296) (ab
   late-valid e = unless-passes _ 402 (then-passes _ _ (then-passes _ _ (then-passes _ _ e .1) .1) .0)
 
   late-room : late (seen v f r small above) r ≡ passes → isSpeak (r .method) ≡ true → length (v .queue) < 16
-  unfolding late room
+  unfolding late capacity
   late-room e s = ltb-true (length (v .queue)) 16 (unless-passes _ 407 (speak-passes r _ s (then-passes _ _ (then-passes _ _ (then-passes _ _ (then-passes _ _ e .1) .1) .1) .1)))
 
   late-good : (l : Verdict) → late (seen v f r small above) r ≡ l → Fair l → Good v (r .method) (r .id) (afterLate l (seen v f r small above) r)

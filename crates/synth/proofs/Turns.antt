@@ -14,9 +14,9 @@ use Rattle.lists.proofs.Tests.{choose}
 use Rattle.lists.proofs.Membership.{elem-head}
 use Rattle.lists.proofs.Dealing.{split-none, split-ascends, split-swap}
 use Rattle.message.specs.Message.{Message, Reading, refused, message, request, response, event}
-use Rattle.message.specs.Reading.{heard}
+use Rattle.message.specs.Reading.{readBytes}
 use Rattle.message.proofs.Refusals.{refused-number}
-use Rattle.message.proofs.Theorems.IdsInRange.{id-heard}
+use Rattle.message.proofs.Theorems.IdsInRange.{id-bytes}
 use Rattle.answer.specs.Written.{writtenAll}
 use Rattle.answer.specs.Writable.{Writable}
 use Rattle.answer.specs.Answers.{speakComplete}
@@ -76,11 +76,11 @@ module _ (v : View) (lent : Lent) (room : ℕ) where
       })
 
 module _ (v : View) (f : Facts v) (room : ℕ) where
-  answer-law : (s : List ℕ) (m : Reading (List ℕ)) → heard s ≡ m → Lawful v (input s) room (answer v room m)
+  answer-law : (s : List ℕ) (m : Reading (List ℕ)) → readBytes s ≡ m → Lawful v (input s) room (answer v room m)
   answer-law s (refused n k) e = let h = refused-number s n k e in refuse-law v (input s) room n k (λ q. omega arith) (λ q. omega arith)
   answer-law s (message h (request name id) fs) e =
       let o = judge v (requestOf h name id fs) in
-      let g = judge-good v f (requestOf h name id fs) (id-heard s h (request name id) fs e) in
+      let g = judge-good v f (requestOf h name id fs) (id-bytes s h (request name id) fs e) in
       deliver-law v (input s) room _ o (g .writable) (g .short) (g .stays-sound)
       (subst
       (λ (m : Reading (List ℕ)).
@@ -118,7 +118,7 @@ module _ (v : View) (f : Facts v) (room : ℕ) where
   reported-law Speaking (x ∷ q) e n small = completed-law n small x q e
 
   on-sound : (lent : Lent) → Lawful v lent room (onSound lent v room)
-  on-sound (input s) = answer-law s (heard s) refl
+  on-sound (input s) = answer-law s (readBytes s) refl
   on-sound (cause n) =
       choose (Lawful v (cause n) room) (ltb 7 n) (λ t. refuse-law v (cause n) room 9 0 (λ q. omega arith) (λ q. omega arith))
       (λ t. reported-law (v .state) (v .queue) refl n (ltb-false 7 n t))

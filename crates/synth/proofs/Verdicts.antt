@@ -11,7 +11,7 @@ use Rattle.lists.proofs.Tests.{choose}
 use Rattle.lists.proofs.Membership.{all-elem}
 use Rattle.synth.specs.Channel.{View}
 use Rattle.synth.specs.Request.{Request, isSpeak}
-use Rattle.synth.specs.Judgement.{Verdict, passes, fails, _then_, unless, inSpeak, version, wellFormed, addressed, ours, above, legal, amongSix, valid, content, room, early, late}
+use Rattle.synth.specs.Judgement.{Verdict, passes, fails, _then_, unless, inSpeak, version, wellFormed, addressed, ours, above, legal, amongSix, valid, content, capacity, early, late}
 
 pub then-passes : (a b : Verdict) → (a then b) ≡ passes → (a ≡ passes) × (b ≡ passes)
 unfolding _then_
@@ -91,7 +91,7 @@ module _ (v : View) (r : Request) where
       (unless-fair _ _ refl)))
 
   pub late-fair : Fair (late v r)
-  unfolding late legal amongSix valid room
+  unfolding late legal amongSix valid capacity
   late-fair =
       then-fair (unless-fair _ _ refl)
       (then-fair (unless-fair _ _ refl)

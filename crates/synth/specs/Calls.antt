@@ -5,7 +5,7 @@ use mathlib.Core.List.{List, [], _∷_}
 use lib.Dec.{ltb}
 use lib.ListN.{length}
 use Rattle.message.specs.Message.{Reading, refused, message, request, response, event}
-use Rattle.message.specs.Reading.{heard}
+use Rattle.message.specs.Reading.{readBytes}
 use Rattle.answer.specs.Written.{writtenAll}
 use Rattle.ledger.specs.Ledger.{Turn}
 use Rattle.synth.specs.Channel.{View, fresh, wellNamed, sound}
@@ -57,7 +57,7 @@ reported Speaking [] v room n = refuse v 8 0
 reported Speaking (e ∷ queue) v room n = deliver v 0 room (completed e queue v n)
 
 abbrev pub onSound : Lent → View → ℕ → Turn View Reply
-onSound (input s) v room = answer v room (heard s)
+onSound (input s) v room = answer v room (readBytes s)
 onSound (cause n) v room = elim (ltb 7 n) [ true ↦ refuse v 9 0 | false ↦ reported (v .state) (v .queue) v room n ]
 
 -- a client message or an engine report on a channel; 21 before all

@@ -1,8 +1,8 @@
 -- A channel as it is viewed: document 01, "Numbers", "Refusal numbers" (soundness, opening) and "States and queue".
 use Prim.Native.Nat.{ℕ, suc}
-use mathlib.Core.Bool.{Bool, true, false, _&&_, _||_, Bool·beq}
+use mathlib.Core.Bool.{Bool, _&&_, _||_, Bool·beq}
 use mathlib.Core.List.{List, [], map}
-use lib.Dec.{leb}
+use lib.Dec.{leb, eqb}
 use lib.ListN.{length, drop}
 use Rattle.lists.specs.Lists.{run, same, isEmpty, ascends}
 use Rattle.octets.specs.Octets.{bytes, isDigit, isLetter}
@@ -43,10 +43,17 @@ ids queue = map (λ (e : Entry). e .id) queue
 abbrev pub held : View → List ℕ
 held v = ids (v .queue)
 
+-- states told apart by number: a test names the states that it is about, and no others
+abbrev pub stateNumber : State → ℕ
+stateNumber Idle = 0
+stateNumber Speaking = 1
+stateNumber Paused = 2
+
+abbrev pub is : State → State → Bool
+is s t = eqb (stateNumber s) (stateNumber t)
+
 abbrev pub isIdle : State → Bool
-isIdle Idle = true
-isIdle Speaking = false
-isIdle Paused = false
+isIdle s = is s Idle
 
 -- the first id above the last one seen; any is above on a fresh channel
 abbrev pub firstAbove : LastId → ℕ

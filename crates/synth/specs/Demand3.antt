@@ -8,12 +8,12 @@ use lib.Dec.{eqb}
 use lib.ListN.{length}
 use Rattle.message.specs.Message.{Start, request, response, event, Reading, refused, message, Message}
 use Rattle.message.specs.Known.{valueOf}
-use Rattle.message.specs.Reading.{heard, messagesIn}
+use Rattle.message.specs.Reading.{readBytes, messagesIn}
 use Rattle.message.specs.declared.Known.the-variants.{ActiveRequestIdList}
 use Rattle.answer.specs.IdList.{idsOf}
-use Rattle.ledger.specs.Ledger.{Seen, Balanced, Run, after, trace}
+use Rattle.ledger.specs.Ledger.{Exchange, Balanced, Run, after, trace}
 use Rattle.synth.specs.Channel.{View, held}
-use Rattle.synth.specs.Request.{methodOf, isSpeak}
+use Rattle.synth.specs.Request.{methodOf, is, isSpeak}
 use Rattle.synth.specs.Calls.{Lent, input, cause, Call, Reply, call, openChannel}
 use Rattle.synth.specs.declared.Method.{Method}
 
@@ -52,13 +52,7 @@ acceptedBy none m = []
 acceptedBy (some a) m = when (isSpeak (a .method) && succeeds (m .start)) (a .id ∷ [])
 
 abbrev pub isEnding : Method → Bool
-isEnding Method.Speak = false
-isEnding Method.Stop = true
-isEnding Method.Pause = false
-isEnding Method.Resume = false
-isEnding Method.Control = false
-isEnding Method.BargeInOccurred = true
-isEnding Method.Unknown = false
+isEnding m = is m Method.Stop || is m Method.BargeInOccurred
 
 -- a STOP or BARGE-IN-OCCURRED answered 200 or 201 puts the ids of the answer's list at the end of closed, in the order written
 abbrev pub closedBy : Option Asked → Message → List ℕ
@@ -72,12 +66,12 @@ eventId (response id status state) = []
 eventId (event name id state) = id ∷ []
 
 abbrev pub accepting : Lent → Message → List ℕ
-accepting (input s) m = acceptedBy (askedBy (heard s)) m
+accepting (input s) m = acceptedBy (askedBy (readBytes s)) m
 accepting (cause n) m = []
 
 -- a report puts the id of each event written at the end of closed
 abbrev pub closing : Lent → Message → List ℕ
-closing (input s) m = closedBy (askedBy (heard s)) m
+closing (input s) m = closedBy (askedBy (readBytes s)) m
 closing (cause n) m = eventId (m .start)
 
 abbrev pub collected : (Message → List ℕ) → List Message → List ℕ
@@ -105,7 +99,7 @@ pub record Meets {S : Type 0} (view : S → View) (s : S) (c : Call) (r : Reply)
 
 -- Demand 3: for every list of calls on a channel as its opening returned it, each call meeting its contract
 abbrev pub Demand3 : Type 1
-Demand3 = (S : Type 0) (view : S → View) (name : List ℕ) (s s′ : S) (calls : List (Seen Call Reply))
+Demand3 = (S : Type 0) (view : S → View) (name : List ℕ) (s s′ : S) (calls : List (Exchange Call Reply))
     → view s ≡ openChannel name .channel → Run (Meets view) s calls s′ → Balanced accepts closes calls (held (view s′))
 
 -- the same of the definitions run as functions

@@ -11,7 +11,7 @@ use Rattle.message.specs.Reading.{bodyIn}
 use Rattle.message.specs.declared.Known.the-variants.{ChannelIdentifier, ContentLength, ContentType, ActiveRequestIdList, KillOnBargeIn}
 use Rattle.answer.specs.IdList.{isIdList}
 use Rattle.synth.specs.Channel.{View, isIdle, firstAbove}
-use Rattle.synth.specs.Request.{Request, isSpeak, isGood, acting, ignoresAny}
+use Rattle.synth.specs.Request.{Request, is, isSpeak, isGood, acting, ignoresAny}
 use Rattle.synth.specs.declared.Method.{Method}
 
 -- a step passes, or fails with a status
@@ -71,13 +71,7 @@ unfoldable pub legal : Request → Verdict
 legal r = unless (optional isFlag (acting KillOnBargeIn r) && optional isIdList (acting ActiveRequestIdList r)) 404
 
 abbrev pub isAmongSix : Method → Bool
-isAmongSix Method.Speak = true
-isAmongSix Method.Stop = true
-isAmongSix Method.Pause = true
-isAmongSix Method.Resume = true
-isAmongSix Method.Control = true
-isAmongSix Method.BargeInOccurred = true
-isAmongSix Method.Unknown = false
+isAmongSix m = not (is m Method.Unknown)
 
 -- 7. method not among the six: 401
 unfoldable pub amongSix : Request → Verdict
@@ -85,13 +79,7 @@ amongSix r = unless (isAmongSix (r .method)) 401
 
 -- idle: PAUSE, RESUME and CONTROL are not valid
 abbrev pub isValid : Method → Bool → Bool
-isValid Method.Speak idle = true
-isValid Method.Stop idle = true
-isValid Method.Pause idle = not idle
-isValid Method.Resume idle = not idle
-isValid Method.Control idle = not idle
-isValid Method.BargeInOccurred idle = true
-isValid Method.Unknown idle = true
+isValid m idle = not ((is m Method.Pause || is m Method.Resume || is m Method.Control) && idle)
 
 -- 8. method not valid in this state: 402
 unfoldable pub valid : View → Request → Verdict
@@ -114,8 +102,8 @@ content r =
     then unless (given isSpeechType (acting ContentType r)) 409)
 
 -- 10. SPEAK with 16 outstanding: 407
-unfoldable pub room : View → Request → Verdict
-room v r = inSpeak r (unless (ltb (length (v .queue)) 16) 407)
+unfoldable pub capacity : View → Request → Verdict
+capacity v r = inSpeak r (unless (ltb (length (v .queue)) 16) 407)
 
 -- 11. success: 200, or 201 if a field was ignored
 unfoldable pub success : Request → ℕ
@@ -127,4 +115,4 @@ early v r = version r then wellFormed r then addressed r then ours v r then abov
 
 -- 6 to 10: the last id seen has become this one, whatever the answer
 unfoldable pub late : View → Request → Verdict
-late v r = legal r then amongSix r then valid v r then content r then room v r
+late v r = legal r then amongSix r then valid v r then content r then capacity v r

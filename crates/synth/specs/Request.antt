@@ -1,12 +1,13 @@
 -- A request as the judgement sees it: its method, and which fields act there (document 01, "Fields").
 use Prim.Native.Nat.{ℕ}
-use mathlib.Core.Bool.{Bool, true, false, not}
+use mathlib.Core.Bool.{Bool, true, false, _||_, not}
 use mathlib.Core.Option.{Option, none}
-use mathlib.Core.List.{List, []}
+use mathlib.Core.List.{List, [], _∷_}
+use lib.Dec.{eqb}
 use Rattle.lists.specs.Lists.{all, same}
 use Rattle.octets.specs.Octets.{bytes}
 use Rattle.message.specs.Message.{Fields, bad, good, fieldsIn, Head}
-use Rattle.message.specs.Known.{namesOf, valueOf}
+use Rattle.message.specs.Known.{among, namesOf, valueOf}
 use Rattle.message.specs.declared.Known.{Known}
 use Rattle.message.specs.declared.Known.the-variants.{ChannelIdentifier, ContentLength, ContentType, ActiveRequestIdList, KillOnBargeIn, ProxySyncId, LoggingTag, Unknown}
 use Rattle.synth.specs.declared.Method.{Method}
@@ -19,6 +20,25 @@ methodText Method.Resume = bytes "RESUME"
 methodText Method.Control = bytes "CONTROL"
 methodText Method.BargeInOccurred = bytes "BARGE-IN-OCCURRED"
 methodText Method.Unknown = []
+
+-- methods told apart by number: a test names the methods that it is about, and no others
+abbrev pub methodNumber : Method → ℕ
+methodNumber Method.Unknown = 0
+methodNumber Method.Speak = 1
+methodNumber Method.Stop = 2
+methodNumber Method.Pause = 3
+methodNumber Method.Resume = 4
+methodNumber Method.Control = 5
+methodNumber Method.BargeInOccurred = 6
+
+abbrev pub is : Method → Method → Bool
+is m n = eqb (methodNumber m) (methodNumber n)
+
+abbrev pub isSpeak : Method → Bool
+isSpeak m = is m Method.Speak
+
+abbrev pub isStop : Method → Bool
+isStop m = is m Method.Stop
 
 abbrev pub orElse : Bool → Method → Method → Method
 orElse true m other = m
@@ -45,26 +65,8 @@ pub record Request : Type 0 where
 abbrev pub requestOf : Head → List ℕ → ℕ → Fields (List ℕ) → Request
 requestOf h name id fs = record { major = h .major; minor = h .minor; method = methodOf name; id = id; fields = fs }
 
-abbrev pub isSpeak : Method → Bool
-isSpeak Method.Speak = true
-isSpeak Method.Stop = false
-isSpeak Method.Pause = false
-isSpeak Method.Resume = false
-isSpeak Method.Control = false
-isSpeak Method.BargeInOccurred = false
-isSpeak Method.Unknown = false
-
-abbrev pub isStop : Method → Bool
-isStop Method.Speak = false
-isStop Method.Stop = true
-isStop Method.Pause = false
-isStop Method.Resume = false
-isStop Method.Control = false
-isStop Method.BargeInOccurred = false
-isStop Method.Unknown = false
-
--- Content-Type and Kill-On-Barge-In act in SPEAK only, Active-Request-Id-List in STOP only, Channel-Identifier and Content-Length
--- everywhere, the last two of the seven nowhere
+-- Content-Type and Kill-On-Barge-In act in SPEAK only, Active-Request-Id-List in STOP only, Channel-Identifier and
+-- Content-Length everywhere, the last two of the seven nowhere
 abbrev pub acts : Method → Known → Bool
 acts m ChannelIdentifier = true
 acts m ContentLength = true
@@ -77,14 +79,7 @@ acts m Unknown = false
 
 -- the last two of the seven are never "ignored"; any other field that does not act is
 abbrev pub ignored : Method → Known → Bool
-ignored m ChannelIdentifier = false
-ignored m ContentLength = false
-ignored m ContentType = not (acts m ContentType)
-ignored m ActiveRequestIdList = not (acts m ActiveRequestIdList)
-ignored m KillOnBargeIn = not (acts m KillOnBargeIn)
-ignored m ProxySyncId = false
-ignored m LoggingTag = false
-ignored m Unknown = true
+ignored m k = not (acts m k || among k (ProxySyncId ∷ LoggingTag ∷ []))
 
 abbrev pub isGood : Fields (List ℕ) → Bool
 isGood bad = false

@@ -39,8 +39,12 @@ abbrev pub killable : Option (List ℕ) → Bool
 killable none = true
 killable (some v) = alike v (bytes "true")
 
+-- what is kept of an outstanding SPEAK
+abbrev pub entryOf : Request → Entry
+entryOf r = record { id = r .id; kill = killable (acting KillOnBargeIn r) }
+
 abbrev pub joined : View → Request → List Entry
-joined v r = v .queue ++ record { id = r .id; kill = killable (acting KillOnBargeIn r) } ∷ []
+joined v r = v .queue ++ entryOf r ∷ []
 
 -- SPEAK: idle, becomes active and speaking, IN-PROGRESS; otherwise joins the end, PENDING
 abbrev pub speak : State → View → Request → Outcome

@@ -1,12 +1,13 @@
 -- What the value of a field says, in the terms of the judgement.
 use Prim.Native.Nat.{ℕ}
-use mathlib.Core.Bool.{true, false}
+use mathlib.Core.Bool.{true, false, not, _&&_}
 use mathlib.Core.Option.{Option, none, some}
 use mathlib.Core.List.{List}
+use lib.Dec.{eqb}
 use Rattle.octets.specs.Octets.{bytes, alike}
 use Rattle.message.specs.Message.{part}
 use Rattle.synth.specs.Judgement as J
-use Rattle.synth.specs.Judgement.{passes, fails}
+use Rattle.synth.specs.Judgement.{passes, fails, _then_, unless, given, anything, isSpeechType}
 use Rattle.values.specs.declared.Given.{Given}
 use Rattle.values.specs.declared.Kill.{Kill}
 use Rattle.values.specs.declared.Verdict.{Verdict}
@@ -28,3 +29,14 @@ killOf (some v) = elim (alike v (bytes "true")) [
 abbrev pub verdictOf : Verdict → J.Verdict
 verdictOf Verdict.Passes = passes
 verdictOf (Verdict.Fails status) = fails (status .code)
+
+-- judgement 9 of a SPEAK with Content-Length, whose type is t
+abbrev pub typedContent : List ℕ → ℕ → J.Verdict
+typedContent t body = unless (not (eqb body 0)) 408 then unless (isSpeechType t) 409
+
+-- judgement 9 of a SPEAK, by the values of Content-Length and Content-Type and the number of bytes in the body
+abbrev pub contentBy : Option (List ℕ) → Option (List ℕ) → ℕ → J.Verdict
+contentBy length media body =
+    unless (given anything length && given anything media) 406
+    then unless (not (eqb body 0)) 408
+    then unless (given isSpeechType media) 409

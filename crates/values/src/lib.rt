@@ -1,11 +1,9 @@
 // What the value of a field that acts in a request says: document 01, "Fields", and judgements 6 and 9.
 ghost use mathlib.Core.Path.{_≡_};
 ghost use mathlib.Core.Option.{some};
-ghost use lib.Dec.{eqb};
-ghost use Rattle.message.specs.Message.{part};
 ghost use Rattle.synth.specs.Judgement.{isSpeechType};
-ghost use Rattle.values.specs.Values.{givenOf, killOf};
-ghost use Rattle.values.specs.Steps.{meets, givenBy, contentBy};
+ghost use Rattle.values.specs.Values.{givenOf, killOf, verdictOf, typedContent, contentBy};
+ghost use Rattle.values.specs.Steps.{meets, givenBy};
 
 // The value of a field that acts in the request's method: its place in the frame, where the field came.
 pub enum Given {
@@ -79,21 +77,28 @@ fn is_speech_type(t: &[u8]) -> bool
     octets::alike(t, b"text/uri-list")
 }
 
-// Judgement 9 of a SPEAK.
-pub fn content(f: &[u8], mask: u16, media: message::Span, body: usize) -> Verdict
-    ensures { λ r. ⌜ r ≡ contentBy (meets mask 2) (meets mask 4) (eqb body 0) (isSpeechType (part (now (f .entry)) media)) ⌝ }
+// Judgement 9 of a SPEAK with Content-Length, and with the type `t` for its `body` bytes.
+fn typed_content(t: &[u8], body: usize) -> Verdict
+    ensures { λ r. ⌜ verdictOf r ≡ typedContent (now (t .entry)) body ⌝ }
 {
-    if !meets(mask, names::CONTENT_LENGTH) {
-        return Verdict::Fails(answer::Status::field_missing());
-    }
-    if !meets(mask, names::CONTENT_TYPE) {
-        return Verdict::Fails(answer::Status::field_missing());
-    }
     if body == 0 {
         return Verdict::Fails(answer::Status::no_content());
     }
-    if !is_speech_type(message::part(f, media)) {
+    if !is_speech_type(t) {
         return Verdict::Fails(answer::Status::unsupported_value());
     }
     Verdict::Passes
+}
+
+// Judgement 9 of a SPEAK, by the values of Content-Length and Content-Type.
+pub fn content(f: &[u8], length: Given, media: Given, body: usize) -> Verdict
+    ensures { λ r. ⌜ verdictOf r ≡ contentBy (givenOf (now (f .entry)) length) (givenOf (now (f .entry)) media) body ⌝ }
+{
+    match length {
+        Given::Nothing => Verdict::Fails(answer::Status::field_missing()),
+        Given::At(_) => match media {
+            Given::Nothing => Verdict::Fails(answer::Status::field_missing()),
+            Given::At(p) => typed_content(message::part(f, p), body),
+        },
+    }
 }

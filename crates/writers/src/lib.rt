@@ -37,7 +37,8 @@ fn at_most(base: usize) -> usize
     if base < MOST { base } else { MOST }
 }
 
-// The length that a message states which has `base` bytes besides the digits of that length. A base above MOST counts as MOST.
+// The length that a message states which has `base` bytes besides the digits of that length. A base above MOST counts
+// as MOST.
 pub fn self_length(base: usize) -> usize
     ensures { λ r. ⌜ r ≡ selfLength (min base (2 ^ 64 - 21)) ⌝ }
 {

@@ -3,20 +3,19 @@ use mathlib.Core.Path.{_≡_, refl, sym, ap, _∙_}
 use mathlib.Core.Bool.{Bool, true, false}
 use mathlib.Core.Option.{Option, none, some}
 use mathlib.Core.List.{List, _++_}
-use Prim.Native.Nat.{ℕ, zero, suc}
+use Prim.Native.Nat.{ℕ, zero, suc, _≤_, _<_}
+use native.Mathlib.Omega.{arith}
 use lib.Dec.{ltb}
 use lib.ListN.{length, drop, set}
+use borrow.Author.Tests.{lt-ltb, le-ltb}
 use Rattle.message.specs.declared.RequestState.{RequestState}
 use Rattle.answer.specs.Written as W
 use Rattle.answer.specs.Answers.{response, speakComplete}
 use Rattle.output.specs.Delivery.{counted, delivered}
-use Rattle.answer.specs.Causes.{causeNumber, causeAt}
-use Rattle.answer.specs.declared.Cause.{Cause}
 use Rattle.answer.specs.declared.Status.{Status}
 use Rattle.answer.specs.declared.Answer.{Answer}
 use Rattle.output.specs.declared.Written.{Written}
 use Rattle.writing.specs.Writing.{WriteCall, wrote, Told, told, stateAt, wroteResponse, wroteEvent}
-use Rattle.answer.specs.declared.Reported.{Reported}
 
 -- w and o are what the writer of bs returned and left; t is what is told of w
 pub tells : (bs place out : List ℕ) (w : Written) (o : List ℕ) (t : Told) → w ≡ counted bs out → o ≡ delivered bs out → t ≡ told w place
@@ -72,13 +71,14 @@ module _ (name ids place out : List ℕ) (id n : ℕ) (s : Status) (st : Request
       tells _ place out w o t (p ∙ ap (λ (l : List ℕ). counted l out) text) (q ∙ ap (λ (l : List ℕ). delivered l out) text) r
       ∙ ap (λ (x : Option RequestState). wroteResponse name id (s .code) x ids place out) (sym numbered)
 
-module _ (name place out : List ℕ) (id n : ℕ) (g : Reported) (p : g ≡ causeAt n) where
-  pub cause-refused : g ≡ Reported.NoCause → record { number = 9; written = set place 0 0; out = out } ≡ wroteEvent name id (causeAt n) place out
-  cause-refused q = ap (λ (x : Reported). wroteEvent name id x place out) (sym q ∙ p)
+module _ (name place out : List ℕ) (id cause : ℕ) where
+  pub cause-refused : 8 ≤ cause
+      → record { number = 9; written = set place 0 0; out = out } ≡ wroteEvent name id cause place out
+  cause-refused h = rw (lt-ltb 7 cause (omega arith), wroteEvent)
 
-  pub completed : (c : Cause) → g ≡ Reported.Cause c → (w : Written) (o : List ℕ) (t : Told)
-      → w ≡ counted (W.written (speakComplete name id (causeNumber c))) out
-      → o ≡ delivered (W.written (speakComplete name id (causeNumber c))) out
+  pub completed : cause < 8 → (w : Written) (o : List ℕ) (t : Told)
+      → w ≡ counted (W.written (speakComplete name id cause)) out
+      → o ≡ delivered (W.written (speakComplete name id cause)) out
       → t ≡ told w place
-      → record { number = t .number; written = t .written; out = o } ≡ wroteEvent name id (causeAt n) place out
-  completed c q w o t e f r = tells _ place out w o t e f r ∙ ap (λ (x : Reported). wroteEvent name id x place out) (sym q ∙ p)
+      → record { number = t .number; written = t .written; out = o } ≡ wroteEvent name id cause place out
+  completed h w o t e f r = rw (le-ltb 7 cause (omega arith), wroteEvent) (tells _ place out w o t e f r)

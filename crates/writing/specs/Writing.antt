@@ -9,9 +9,7 @@ use Rattle.message.specs.declared.RequestState.{RequestState}
 use Rattle.message.specs.declared.RequestState.the-variants.{Pending, InProgress, Complete}
 use Rattle.answer.specs.Written as W
 use Rattle.answer.specs.Answers.{response, speakComplete}
-use Rattle.answer.specs.Causes.{causeNumber}
 use Rattle.output.specs.declared.Written.{Written}
-use Rattle.answer.specs.declared.Reported.{Reported}
 
 -- a call's number, the place lent for the count written, and the lent output, as it leaves them
 pub record WriteCall : Type 0 where
@@ -49,6 +47,8 @@ wroteResponse name id status none ids place out = record { number = 9; written =
 wroteResponse name id status (some state) ids place out = wrote (W.written (response name id status state ids)) place out
 
 -- the event that ends request id; 9 where there is no such cause
-abbrev pub wroteEvent : List ℕ → ℕ → Reported → List ℕ → List ℕ → WriteCall
-wroteEvent name id Reported.NoCause place out = record { number = 9; written = set place 0 0; out = out }
-wroteEvent name id (Reported.Cause c) place out = wrote (W.written (speakComplete name id (causeNumber c))) place out
+abbrev pub wroteEvent : List ℕ → ℕ → ℕ → List ℕ → List ℕ → WriteCall
+wroteEvent name id cause place out = elim (ltb 7 cause) [
+  | true ↦ record { number = 9; written = set place 0 0; out = out }
+  | false ↦ wrote (W.written (speakComplete name id cause)) place out
+]

@@ -1,7 +1,6 @@
-// The writers called from C, one message a call, for the comparison with the second program and the benchmark; the product's own face has
-// calls on a channel instead.
+// The writers called from C, one message a call, for the comparison with the second program and the benchmark; the
+// product's own face has calls on a channel instead.
 ghost use mathlib.Core.Path.{_≡_};
-ghost use Rattle.answer.specs.Causes.{causeAt};
 ghost use Rattle.writing.specs.Writing.{told, stateAt, wroteResponse, wroteEvent};
 
 // The number and the count of a write.
@@ -31,7 +30,9 @@ pub extern "C" fn klarvesimo_write_response(
     out: &mut [u8],
     written: &mut [u64; 1],
 ) -> u32
-    ensures { λ r. ⌜ record { number = r; written = now (written .exit); out = now (out .exit) } ≡ wroteResponse (now (name .entry)) id status (stateAt state) (now (ids .entry)) (now (written .entry)) (now (out .entry)) ⌝ }
+    ensures { λ r. ⌜ record { number = r; written = now (written .exit); out = now (out .exit) }
+        ≡ wroteResponse (now (name .entry)) id status (stateAt state) (now (ids .entry)) (now (written .entry))
+        (now (out .entry)) ⌝ }
 {
     let s = answer::Status { code: status };
     match state {
@@ -66,17 +67,13 @@ pub extern "C" fn klarvesimo_write_event(
     out: &mut [u8],
     written: &mut [u64; 1],
 ) -> u32
-    ensures { λ r. ⌜ record { number = r; written = now (written .exit); out = now (out .exit) } ≡ wroteEvent (now (name .entry)) id (causeAt cause) (now (written .entry)) (now (out .entry)) ⌝ }
+    ensures { λ r. ⌜ record { number = r; written = now (written .exit); out = now (out .exit) }
+        ≡ wroteEvent (now (name .entry)) id cause (now (written .entry)) (now (out .entry)) ⌝ }
 {
-    let g = answer::cause_reported(cause);
-    match g {
-        answer::Reported::NoCause => {
-            written[0] = 0;
-            9
-        }
-        answer::Reported::Cause(c) => {
-            let w = output::complete(out, name, id, c);
-            tell(w, written)
-        }
+    if answer::CAUSES <= cause {
+        written[0] = 0;
+        return 9;
     }
+    let w = output::complete(out, name, id, cause);
+    tell(w, written)
 }

@@ -13,13 +13,13 @@ use Rattle.message.specs.Reading.{messagesIn}
 use Rattle.answer.specs.Written.{written, writtenAll}
 use Rattle.answer.specs.Writable.{Writable}
 use Rattle.answer.proofs.Frames.{written-some}
-use Rattle.answer.proofs.Reading.{nothing-heard}
+use Rattle.answer.proofs.Reading.{nothing-read}
 use Rattle.answer.proofs.Theorems.ReadBack.{read-back}
 
 pub messages-back : (ms : List Message) → All Writable ms → (most : ℕ) → length ms ≤ most → messagesIn most (writtenAll ms) ≡ ms
 unfolding messagesIn writtenAll
 messages-back [] w zero l = refl
-messages-back [] w (suc most) l = rw (nothing-heard, messagesIn)
+messages-back [] w (suc most) l = rw (nothing-read, messagesIn)
 messages-back (m ∷ ms) w zero l = absurd (not-suc-le-zero l)
 messages-back (m ∷ ms) w (suc most) l =
     rw (read-back m (writtenAll ms) (w .0), drop-append-seam (written m) (writtenAll ms), messagesIn)

@@ -19,8 +19,8 @@ refused-requires c κs = search needs
 returns : tie.Need-returns
 returns c =
     let a = c .before .before .before .before .before .args in
-    leaves-refused (a .c) 21 0 (a .out .now) (c .refused .ensures)
-    (unsound-refused (view (a .c)) _ (sym (c .before .before .is-sound .ensures) ∙ not-true _ (c .before .if1 .taken)))
+    leaves-refused 21 0 (a .out .now) (c .refused .ensures)
+    (unsound-refused (view (a .last) (a .c)) _ (sym (c .before .before .is-sound .ensures) ∙ not-true _ (c .before .if1 .taken)))
 
 frame-requires : tie.Need-frame-requires
 frame-requires c κs = search needs
@@ -56,7 +56,7 @@ slice-aggregate-handle-frame : tie.Need-slice-aggregate-handle-frame
 slice-aggregate-handle-frame c =
     let a = c .before .before .before .before .before .before .before .before .before .args in
     let sane = sym (c .before .before .before .before .before .before .is-sound .ensures) ∙ not-false _ (c .before .before .before .before .before .if1 .left) in
-    frame-size (view (a .c)) (a .s .now) (length (a .out .now)) sane _ _ _ _ (sym (c .before .before .before .before .frame .ensures) ∙ c .before .before .f .given .1)
+    frame-size (view (a .last) (a .c)) (a .s .now) (length (a .out .now)) sane _ _ _ _ (sym (c .before .before .before .before .frame .ensures) ∙ c .before .before .f .given .1)
 
 handle-frame-requires : tie.Need-handle-frame-requires
 handle-frame-requires c κs = sym (c .before .before .before .before .before .before .before .is-sound .ensures) ∙ not-false _ (c .before .before .before .before .before .before .if1 .left)
@@ -65,29 +65,29 @@ returns-2 : tie.Need-returns-2
 returns-2 c =
     let a = c .before .before .before .before .before .before .before .before .args in
     let sane = sym (c .before .before .before .before .before .is-sound .ensures) ∙ not-false _ (c .before .before .before .before .if1 .left) in
-    leaves-refused (a .c) 1 0 (a .out .now) (c .refused2 .ensures)
-    (framed-refused (view (a .c)) (a .s .now) (length (a .out .now)) sane More 1 (sym (c .before .before .before .frame .ensures) ∙ c .before .enum-told .given .1) refl)
+    leaves-refused 1 0 (a .out .now) (c .refused2 .ensures)
+    (framed-refused (view (a .last) (a .c)) (a .s .now) (length (a .out .now)) sane More 1 (sym (c .before .before .before .frame .ensures) ∙ c .before .enum-told .given .1) refl)
 
 returns-3 : tie.Need-returns-3
 returns-3 c =
     let a = c .before .before .before .before .before .before .before .before .args in
     let sane = sym (c .before .before .before .before .before .is-sound .ensures) ∙ not-false _ (c .before .before .before .before .if1 .left) in
-    leaves-refused (a .c) 2 0 (a .out .now) (c .refused3 .ensures)
-    (framed-refused (view (a .c)) (a .s .now) (length (a .out .now)) sane NoMessage 2 (sym (c .before .before .before .frame .ensures) ∙ c .before .enum-told2 .given .1) refl)
+    leaves-refused 2 0 (a .out .now) (c .refused3 .ensures)
+    (framed-refused (view (a .last) (a .c)) (a .s .now) (length (a .out .now)) sane NoMessage 2 (sym (c .before .before .before .frame .ensures) ∙ c .before .enum-told2 .given .1) refl)
 
 returns-4 : tie.Need-returns-4
 returns-4 c =
     let a = c .before .before .before .before .before .before .before .before .args in
     let sane = sym (c .before .before .before .before .before .is-sound .ensures) ∙ not-false _ (c .before .before .before .before .if1 .left) in
-    leaves-refused (a .c) 3 0 (a .out .now) (c .refused4 .ensures)
-    (framed-refused (view (a .c)) (a .s .now) (length (a .out .now)) sane TooLong 3 (sym (c .before .before .before .frame .ensures) ∙ c .before .enum-told3 .given .1) refl)
+    leaves-refused 3 0 (a .out .now) (c .refused4 .ensures)
+    (framed-refused (view (a .last) (a .c)) (a .s .now) (length (a .out .now)) sane TooLong 3 (sym (c .before .before .before .frame .ensures) ∙ c .before .enum-told3 .given .1) refl)
 
 returns-5 : tie.Need-returns-5
 returns-5 c =
     let a = c .before .before .before .before .before .before .before .before .args in
     let sane = sym (c .before .before .before .before .before .is-sound .ensures) ∙ not-false _ (c .before .before .before .before .if1 .left) in
-    leaves-refused (a .c) 4 0 (a .out .now) (c .refused5 .ensures)
-    (framed-refused (view (a .c)) (a .s .now) (length (a .out .now)) sane TooShort 4 (sym (c .before .before .before .frame .ensures) ∙ c .before .enum-told4 .given .1) refl)
+    leaves-refused 4 0 (a .out .now) (c .refused5 .ensures)
+    (framed-refused (view (a .last) (a .c)) (a .s .now) (length (a .out .now)) sane TooShort 4 (sym (c .before .before .before .frame .ensures) ∙ c .before .enum-told4 .given .1) refl)
 
 same-length : tie.Need-same-length
 same-length c = search needs
@@ -96,7 +96,7 @@ returns-6 : tie.Need-returns-6
 returns-6 c =
     let a = c .before .before .before .before .before .before .before .before .before .before .before .before .before .args in
     let sane = sym (c .before .before .before .before .before .before .before .before .before .before .is-sound .ensures) ∙ not-false _ (c .before .before .before .before .before .before .before .before .before .if1 .left) in
-    let framed = framed-line (view (a .c)) (a .s .now) (length (a .out .now)) sane _ _ _ _ (sym (c .before .before .before .before .before .before .before .before .frame .ensures) ∙ c .before .before .before .before .before .before .f .given .1) in
+    let framed = framed-line (view (a .last) (a .c)) (a .s .now) (length (a .out .now)) sane _ _ _ _ (sym (c .before .before .before .before .before .before .before .before .frame .ensures) ∙ c .before .before .before .before .before .before .f .given .1) in
     turned (sym framed) (c .before .before .handle-frame .ensures)
 
 pub handle-spec : {M : Type 1} → statement M

@@ -4,7 +4,8 @@ use lib.ListN.{length}
 use Rattle.startline.specs.StartLine.{startedOf}
 use Rattle.channel.specs.Channel.{view}
 use Rattle.calls.proofs.Leaving.{turned, leaves-refused}
-use Rattle.client.proofs.Messages.{frameTurn, in-range}
+use Rattle.client.specs.Turns.{frameTurn}
+use Rattle.client.proofs.Messages.{in-range}
 use borrow.Author.Needs.{needs}
 use Rattle.client.proofs.handle_frame.Statement.{statement}
 use Rattle.client.proofs.handle_frame.Tie as tie
@@ -28,8 +29,8 @@ handle-line-requires c κs = let at = c .before .before .before .before .before 
 returns : tie.Need-returns
 returns c =
     let a = c .before .before .before .before .before .before .args in
-    leaves-refused (a .c) 5 (length (a .f .now)) (a .out .now) (c .refused .ensures)
-    (ap (frameTurn (view (a .c)) (length (a .out .now)) (a .f .now) (a .major) (a .minor)) (sym (c .before .before .before .start-line .ensures) ∙ ap startedOf (c .before .enum-told .given .1)))
+    leaves-refused 5 (length (a .f .now)) (a .out .now) (c .refused .ensures)
+    (ap (frameTurn (view (a .last) (a .c)) (length (a .out .now)) (a .f .now) (a .major) (a .minor)) (sym (c .before .before .before .start-line .ensures) ∙ ap startedOf (c .before .enum-told .given .1)))
 
 same-length : tie.Need-same-length
 same-length c = search needs
@@ -37,7 +38,7 @@ same-length c = search needs
 returns-2 : tie.Need-returns-2
 returns-2 c =
     let a = c .before .before .before .before .before .before .before .before .before .before .args in
-    turned (ap (frameTurn (view (a .c)) (length (a .out .now)) (a .f .now) (a .major) (a .minor)) (ap startedOf (sym (c .before .before .before .before .before .line .given .1)) ∙ c .before .before .before .before .before .before .before .start-line .ensures)) (c .before .before .handle-line .ensures)
+    turned (ap (frameTurn (view (a .last) (a .c)) (length (a .out .now)) (a .f .now) (a .major) (a .minor)) (ap startedOf (sym (c .before .before .before .before .before .line .given .1)) ∙ c .before .before .before .before .before .before .before .start-line .ensures)) (c .before .before .handle-line .ensures)
 
 pub handle-frame-spec : {M : Type 1} → statement M
 handle-frame-spec =

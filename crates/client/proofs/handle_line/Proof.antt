@@ -7,7 +7,7 @@ use Rattle.startline.specs.StartLine.{startOf}
 use Rattle.startline.specs.declared.Start.{Start}
 use Rattle.channel.specs.Channel.{view}
 use Rattle.calls.proofs.Leaving.{name-short, queue-short, turned, leaves-refused}
-use Rattle.client.proofs.Messages.{lineTurn}
+use Rattle.client.specs.Turns.{lineTurn}
 use borrow.Author.Needs.{needs}
 use Rattle.client.proofs.handle_line.Statement.{statement}
 use Rattle.client.proofs.handle_line.Tie as tie
@@ -26,7 +26,7 @@ judge-requires c κs = search needs
 
 deliver-requires : tie.Need-deliver-requires
 deliver-requires c κs = let at = c .before .before .before .before .before .before .before in
-    (at .pre .0, c .before .judge .ensures (name-short (view (at .args .c)) (at .pre .0)) (queue-short (view (at .args .c)) (at .pre .0)) .few)
+    (at .pre .0, c .before .judge .ensures (name-short (view (at .args .last) (at .args .c)) (at .pre .0)) (queue-short (view (at .args .last) (at .args .c)) (at .pre .0)) .few)
 
 enum-told : tie.Need-enum-told
 enum-told c = search needs
@@ -46,23 +46,23 @@ same-length c = search needs
 returns : tie.Need-returns
 returns c =
     let a = c .before .before .before .before .before .before .before .before .before .before .args in
-    let turn = lineTurn (view (a .c)) (length (a .out .now)) (a .f .now) (a .major) (a .minor) (a .at) in
+    let turn = lineTurn (view (a .last) (a .c)) (length (a .out .now)) (a .f .now) (a .major) (a .minor) (a .at) in
     let at = c .before .before .before .before .before .before .before .before .before .before in
-    let v = view (a .c) in
+    let v = view (a .last) (a .c) in
     turned (ap turn (sym (c .before .before .before .before .before .before .start .given .1)))
     (c .before .before .deliver .ensures _ (c .before .before .before .before .judge .ensures (name-short v (at .pre .0)) (queue-short v (at .pre .0))))
 
 returns-2 : tie.Need-returns-2
 returns-2 c =
     let a = c .before .before .before .before .before .args in
-    let turn = lineTurn (view (a .c)) (length (a .out .now)) (a .f .now) (a .major) (a .minor) (a .at) in
-    leaves-refused (a .c) 6 (length (a .f .now)) (a .out .now) (c .refused .ensures) (ap turn (c .before .enum-told .given .1))
+    let turn = lineTurn (view (a .last) (a .c)) (length (a .out .now)) (a .f .now) (a .major) (a .minor) (a .at) in
+    leaves-refused 6 (length (a .f .now)) (a .out .now) (c .refused .ensures) (ap turn (c .before .enum-told .given .1))
 
 returns-3 : tie.Need-returns-3
 returns-3 c =
     let a = c .before .before .before .before .before .args in
-    let turn = lineTurn (view (a .c)) (length (a .out .now)) (a .f .now) (a .major) (a .minor) (a .at) in
-    leaves-refused (a .c) 6 (length (a .f .now)) (a .out .now) (c .refused2 .ensures) (ap turn (c .before .enum-told2 .given .1))
+    let turn = lineTurn (view (a .last) (a .c)) (length (a .out .now)) (a .f .now) (a .major) (a .minor) (a .at) in
+    leaves-refused 6 (length (a .f .now)) (a .out .now) (c .refused2 .ensures) (ap turn (c .before .enum-told2 .given .1))
 
 pub handle-line-spec : {M : Type 1} → statement M
 handle-line-spec =

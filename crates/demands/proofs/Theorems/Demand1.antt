@@ -17,19 +17,19 @@ use Rattle.demands.specs.Demands.{Line, outcome, stated, table, firstDue
 use Rattle.demands.proofs.Lines.{Gives, tabled}
 
 pub demand1-of-the-code : Demand1OfTheCode
-demand1-of-the-code c lent out r after p =
-    let v = view c in (
+demand1-of-the-code last c lent out r after p =
+    let v = view last c in (
       by-line (firstDue (table v lent (length out))) (tabled v lent (length out)),
       λ s. rw (ap (λ (l : Left). l .channel) (p .same)) (call-sound v (record { lent = lent; room = length out }) s),
     )
   where
     t : Turn View Reply
-    t = call (view c) (record { lent = lent; room = length out })
+    t = call (view last c) (record { lent = lent; room = length out })
 
-    by-line : (o : Option Line) → Gives (view c) (stated lent) (outcome (view c) lent) o t → ByTable o c lent out r after
+    by-line : (o : Option Line) → Gives (view last c) (stated lent) (outcome (view last c) lent) o t → ByTable o last c lent out r after
     by-line none e = p .same ∙ ap (λ (t : Turn View Reply). leftBy t out) e
     by-line (some l) (e, not-0, x) =
         let same = p .same ∙ ap (λ (t : Turn View Reply). leftBy t out) e in
         let number : r .number ≡ l .number = ap (λ (x : Left). x .number) same in
-        let kept : r .channel ≡ c = p .kept (λ z. false≢true (sym not-0 ∙ ap (λ (n : ℕ). eqb n 0) (sym number ∙ z))) in
-        (λ i. record { number = number i; consumed = same i .consumed; written = same i .written; channel = kept i }, λ i. same i .out)
+        let kept = p .kept (λ z. false≢true (sym not-0 ∙ ap (λ (n : ℕ). eqb n 0) (sym number ∙ z))) in
+        (λ i. record { number = number i; consumed = same i .consumed; written = same i .written; last = kept .0 i; channel = kept .1 i }, λ i. same i .out)

@@ -10,7 +10,7 @@ use lib.ListN.{length}
 use Rattle.ledger.specs.Ledger.{Turn}
 use Rattle.synth.specs.Channel.{View}
 use Rattle.synth.specs.Calls.{Lent, Reply, call}
-use Rattle.words.specs.Words.{viewOf}
+use Rattle.channelnumbers.specs.Numbers.{viewOf}
 use Rattle.klarvesimo.specs.Face.{keeping, turnFace, callOn, callFace}
 use Rattle.demands.specs.Demands.{Line, table, firstDue, outcome, stated}
 use Rattle.demands.specs.FromC.{lineFace, tableFace, Demand1OfTheFace}

@@ -9,16 +9,16 @@ use native.Mathlib.Omega.{arith}
 use lib.ListN.{length, take, drop}
 use lib.Seq.{take-append-seam}
 use Rattle.lists.proofs.Tests.{choose}
-use Rattle.ledger.specs.Ledger.{Seen, Run, ended, called, Turn, Balanced}
+use Rattle.ledger.specs.Ledger.{Exchange, Run, ended, called, Turn, Balanced}
 use Rattle.synth.specs.Channel.{View, fresh, wellNamed, sound, held}
 use Rattle.synth.specs.Calls.{Call, Reply, Opened, refuse, call, openChannel}
 use Rattle.synth.specs.Demand3.{Meets, accepts, closes}
 use Rattle.synth.proofs.Theorems.Demand3.{demand3}
 use Rattle.synth.proofs.Theorems.Soundness.{call-sound, refused-keeps}
-use Rattle.channel.proofs.Names.{name-fits}
+use Rattle.channelnames.proofs.Fits.{name-fits}
 use Rattle.calls.proofs.Leaving.{name-short, queue-short, unsound-refused}
-use Rattle.words.specs.Words.{numbersOf, viewOf}
-use Rattle.words.proofs.Theorems.LoadSaved.{load-saved}
+use Rattle.channelnumbers.specs.Numbers.{numbersOf, viewOf}
+use Rattle.channelnumbers.proofs.Theorems.LoadSaved.{load-saved}
 use Rattle.klarvesimo.specs.Face.{openFace, CallFace, keeping, turnFace, callOn, callFace}
 use Rattle.demands.specs.FromC.{heldIn, CalledFromC, Demand3OfTheFace}
 
@@ -108,7 +108,7 @@ meets ws k r next c = go (viewOf ws) refl
     go none e = meets-none ws (c .out) k e (c .seen) (c .left)
     go (some v) e = meets-channel v ws (c .out) k (c .room) e (c .seen) (c .left)
 
-pub each-meets : {ws last : List ℕ} {calls : List (Seen Call Reply)} → Run CalledFromC ws calls last → Run (Meets viewIn) ws calls last
+pub each-meets : {ws last : List ℕ} {calls : List (Exchange Call Reply)} → Run CalledFromC ws calls last → Run (Meets viewIn) ws calls last
 each-meets ended = ended
 each-meets (called {s = ws} {s′ = next} {c = k} {r = r} g run) = called (meets ws k r next g) (each-meets run)
 

@@ -12,7 +12,7 @@ use borrow.Author.Tests.{le-ltb}
 use Rattle.synth.specs.Channel.{View, held, sound}
 use Rattle.synth.proofs.Theorems.Soundness.{opened-sound}
 use Rattle.calls.proofs.Leaving.{queue-short}
-use Rattle.words.specs.Words.{viewOf}
+use Rattle.channelnumbers.specs.Numbers.{viewOf}
 use Rattle.klarvesimo.specs.Face.{openFace, HeldFace, fitting, heldOn, heldFace}
 use Rattle.demands.specs.FromC.{heldIn, HeldOfTheFace}
 use Rattle.demands.proofs.Theorems.Soundness.{stays}

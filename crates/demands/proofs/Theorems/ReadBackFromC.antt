@@ -12,8 +12,8 @@ use borrow.Author.Tests.{ltb-false}
 use Rattle.lists.specs.Lists.{All}
 use Rattle.lists.proofs.Membership.{elem-head}
 use Rattle.message.specs.Message.{Reading, refused, message, request, response, event}
-use Rattle.message.specs.Reading.{heard, messagesIn}
-use Rattle.message.proofs.Theorems.IdsInRange.{id-heard}
+use Rattle.message.specs.Reading.{readBytes, messagesIn}
+use Rattle.message.proofs.Theorems.IdsInRange.{id-bytes}
 use Rattle.answer.specs.Writable.{Writable}
 use Rattle.answer.proofs.Theorems.AnswersWritable.{complete-writable}
 use Rattle.answer.proofs.Theorems.ListsReadBack.{all-back}
@@ -35,9 +35,9 @@ Due none = ⊥
 Due (some l) = Unit {0}
 
 module _ (v : View) (f : Facts v) where
-  answer-writable : (s : List ℕ) (m : Reading (List ℕ)) → heard s ≡ m → All Writable (answering v m .says)
+  answer-writable : (s : List ℕ) (m : Reading (List ℕ)) → readBytes s ≡ m → All Writable (answering v m .says)
   answer-writable s (refused n k) e = tt
-  answer-writable s (message h (request name id) fs) e = judge-good v f (requestOf h name id fs) (id-heard s h (request name id) fs e) .writable
+  answer-writable s (message h (request name id) fs) e = judge-good v f (requestOf h name id fs) (id-bytes s h (request name id) fs e) .writable
   answer-writable s (message h (response id status state) fs) e = tt
   answer-writable s (message h (event name id state) fs) e = tt
 
@@ -73,7 +73,7 @@ module _ (v : View) (room : ℕ) where
       go false h = ltb-false 7 n h
 
   writable : (lent : Lent) → firstDue (table v lent room) ≡ none → All Writable (outcome v lent .says)
-  writable (input s) e = answer-writable v (sound-facts v (sane (input s) e)) s (heard s) refl
+  writable (input s) e = answer-writable v (sound-facts v (sane (input s) e)) s (readBytes s) refl
   writable (cause n) e = event-writable v (sound-facts v (sane (cause n) e)) n (a-cause n e) (v .queue) refl
 
 -- what a call that returned 0 wrote

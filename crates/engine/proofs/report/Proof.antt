@@ -1,13 +1,10 @@
 -- `engine::report` refuses an unsound channel before all, then a cause above 7, then a channel that does not speak. Assumes nothing.
-use mathlib.Core.Path.{sym, ap, _∙_}
-use Prim.Native.Nat.{ℕ}
+use Prim.Native.Nat.{_≤_, _<_}
+use mathlib.Core.Path.{sym, _∙_}
+use native.Mathlib.Omega.{arith}
 use lib.ListN.{length}
 use borrow.Author.Tests.{not-true, not-false}
-use Rattle.answer.proofs.Causes.{cause-number, above-causes}
-use Rattle.synth.specs.Calls.{deliver}
-use Rattle.synth.specs.States.{completed}
 use Rattle.channel.specs.Channel.{view}
-use Rattle.channel.proofs.Views.{state-is}
 use Rattle.calls.proofs.Leaving.{turned, leaves-refused, unsound-refused}
 use Rattle.engine.proofs.Reports.{no-such-cause, idle-silent, paused-silent, speaking-completes, has-active}
 use borrow.Author.Needs.{needs}
@@ -23,72 +20,62 @@ refused-requires c κs = search needs
 returns : tie.Need-returns
 returns c =
     let a = c .before .before .before .before .args in
-    leaves-refused (a .c) 21 0 (a .out .now) (c .refused .ensures)
-    (unsound-refused (view (a .c)) _ (sym (c .before .before .is-sound .ensures) ∙ not-true _ (c .before .if1 .taken)))
-
-cause-reported-requires : tie.Need-cause-reported-requires
-cause-reported-requires c κs = search needs
-
-enum-told : tie.Need-enum-told
-enum-told c = search needs
+    leaves-refused 21 0 (a .out .now) (c .refused .ensures)
+    (unsound-refused (view (a .last) (a .c)) _ (sym (c .before .before .is-sound .ensures) ∙ not-true _ (c .before .if1 .taken)))
 
 refused-requires-2 : tie.Need-refused-requires-2
 refused-requires-2 c κs = search needs
 
-enum-known-reported : tie.Need-enum-known-reported
-enum-known-reported c = search needs
+returns-2 : tie.Need-returns-2
+returns-2 c =
+    let a = c .before .before .before .before .before .args in
+    let above : 7 < a .cause = omega (arith, c .before .if2 .taken) in
+    leaves-refused 9 0 (a .out .now) (c .refused2 .ensures) (no-such-cause (view (a .last) (a .c)) (a .cause) (length (a .out .now)) (sym (c .before .before .before .is-sound .ensures) ∙ not-false _ (c .before .before .if1 .left)) above)
 
-enum-told-2 : tie.Need-enum-told-2
-enum-told-2 c = search needs
+enum-told : tie.Need-enum-told
+enum-told c = search needs
 
 refused-requires-3 : tie.Need-refused-requires-3
 refused-requires-3 c κs = search needs
 
-enum-told-3 : tie.Need-enum-told-3
-enum-told-3 c = search needs
+enum-told-2 : tie.Need-enum-told-2
+enum-told-2 c = search needs
 
 refused-requires-4 : tie.Need-refused-requires-4
 refused-requires-4 c κs = search needs
 
-enum-told-4 : tie.Need-enum-told-4
-enum-told-4 c = search needs
+enum-told-3 : tie.Need-enum-told-3
+enum-told-3 c = search needs
 
 complete-requires : tie.Need-complete-requires
-complete-requires c κs = sym (c .before .before .before .before .before .before .before .before .is-sound .ensures) ∙ not-false _ (c .before .before .before .before .before .before .before .if1 .left)
-
-returns-2 : tie.Need-returns-2
-returns-2 c =
-    let a = c .before .before .before .before .before .before .before .args in
-    leaves-refused (a .c) 9 0 (a .out .now) (c .refused2 .ensures)
-    (no-such-cause (view (a .c)) (a .cause) (length (a .out .now)) (sym (c .before .before .before .before .before .is-sound .ensures) ∙ not-false _ (c .before .before .before .before .if1 .left)) (above-causes (a .cause) (sym (c .before .before .before .cause-reported .ensures) ∙ c .before .enum-told .given .1)))
+complete-requires c κs = sym (c .before .before .before .before .before .is-sound .ensures) ∙ not-false _ (c .before .before .before .before .if1 .left)
 
 returns-3 : tie.Need-returns-3
 returns-3 c =
-    let a = c .before .before .before .before .before .before .before .before .before .before .args in
-    let caused = cause-number (a .cause) _ (sym (c .before .before .before .before .before .before .cause-reported .ensures) ∙ c .before .before .before .before .reported .given .1) in
-    leaves-refused (a .c) 8 0 (a .out .now) (c .refused3 .ensures)
-    (idle-silent (view (a .c)) (a .cause) (length (a .out .now)) (sym (c .before .before .before .before .before .before .before .before .is-sound .ensures) ∙ not-false _ (c .before .before .before .before .before .before .before .if1 .left)) (caused .1) (state-is (a .c) ∙ c .before .enum-told2 .given .1))
+    let a = c .before .before .before .before .before .before .before .args in
+    let caused : a .cause ≤ 7 = omega (arith, c .before .before .before .if2 .left) in
+    leaves-refused 8 0 (a .out .now) (c .refused3 .ensures)
+    (idle-silent (view (a .last) (a .c)) (a .cause) (length (a .out .now)) (sym (c .before .before .before .before .before .is-sound .ensures) ∙ not-false _ (c .before .before .before .before .if1 .left)) caused (c .before .enum-told .given .1))
 
 returns-4 : tie.Need-returns-4
 returns-4 c =
-    let a = c .before .before .before .before .before .before .before .before .before .before .args in
-    let caused = cause-number (a .cause) _ (sym (c .before .before .before .before .before .before .cause-reported .ensures) ∙ c .before .before .before .before .reported .given .1) in
-    leaves-refused (a .c) 8 0 (a .out .now) (c .refused4 .ensures)
-    (paused-silent (view (a .c)) (a .cause) (length (a .out .now)) (sym (c .before .before .before .before .before .before .before .before .is-sound .ensures) ∙ not-false _ (c .before .before .before .before .before .before .before .if1 .left)) (caused .1) (state-is (a .c) ∙ c .before .enum-told3 .given .1))
+    let a = c .before .before .before .before .before .before .before .args in
+    let caused : a .cause ≤ 7 = omega (arith, c .before .before .before .if2 .left) in
+    leaves-refused 8 0 (a .out .now) (c .refused4 .ensures)
+    (paused-silent (view (a .last) (a .c)) (a .cause) (length (a .out .now)) (sym (c .before .before .before .before .before .is-sound .ensures) ∙ not-false _ (c .before .before .before .before .if1 .left)) caused (c .before .enum-told2 .given .1))
 
 same-length : tie.Need-same-length
 same-length c = search needs
 
 returns-5 : tie.Need-returns-5
 returns-5 c =
-    let a = c .before .before .before .before .before .before .before .before .before .before .before .before .before .args in
-    let v = view (a .c) in
-    let sane = sym (c .before .before .before .before .before .before .before .before .before .before .before .is-sound .ensures) ∙ not-false _ (c .before .before .before .before .before .before .before .before .before .before .if1 .left) in
-    let caused = cause-number (a .cause) _ (sym (c .before .before .before .before .before .before .before .before .before .cause-reported .ensures) ∙ c .before .before .before .before .before .before .before .reported .given .1) in
-    let speaks = state-is (a .c) ∙ c .before .before .before .before .enum-told4 .given .1 in
+    let a = c .before .before .before .before .before .before .before .before .before .before .args in
+    let v = view (a .last) (a .c) in
+    let sane = sym (c .before .before .before .before .before .before .before .before .is-sound .ensures) ∙ not-false _ (c .before .before .before .before .before .before .before .if1 .left) in
+    let caused : a .cause ≤ 7 = omega (arith, c .before .before .before .before .before .before .if2 .left) in
+    let speaks = c .before .before .before .before .enum-told3 .given .1 in
     let active = has-active v sane speaks in
-    let goes = speaking-completes v (a .cause) (length (a .out .now)) sane (caused .1) speaks (active .entry) (active .others) (active .queued) in
-    turned (ap (λ (n : ℕ). deliver v 0 (length (a .out .now)) (completed (active .entry) (active .others) v n)) (caused .0) ∙ sym goes)
+    turned (sym (speaking-completes v (a .cause) (length (a .out .now)) sane caused speaks (active .entry) (active .others) (active .queued)))
     (c .before .before .complete .ensures (active .entry) (active .others) (active .queued))
 
 pub report-spec : {M : Type 1} → statement M
@@ -98,17 +85,14 @@ report-spec =
     is-sound-requires
     refused-requires
     returns
-    cause-reported-requires
-    enum-told
     refused-requires-2
-    enum-known-reported
-    enum-told-2
-    refused-requires-3
-    enum-told-3
-    refused-requires-4
-    enum-told-4
-    complete-requires
     returns-2
+    enum-told
+    refused-requires-3
+    enum-told-2
+    refused-requires-4
+    enum-told-3
+    complete-requires
     returns-3
     returns-4
     same-length

@@ -4,10 +4,6 @@ use Rattle.framing.specs.declared.Framing.the-variants.{More, NoMessage, TooLon
 use Rattle.firmware.proofs.Faces.{frame-face, frame-handed}
 use Rattle.firmware.proofs.klarvesimo_frame.Statement.{statement}
 use Rattle.firmware.proofs.klarvesimo_frame.Tie as tie
-use Rattle.firmware.proofs.klarvesimo_frame.Reads as reads
-use Rattle.firmware.proofs.klarvesimo_frame.Lts as lts
-use Rattle.messagenumbers.proofs.hand_over_frame.Reads as hand-over-frame-reads
-use Rattle.framing.proofs.frame.Reads as frame-reads
 
 frame-requires : tie.Need-frame-requires
 frame-requires c κs = search needs

@@ -5,10 +5,6 @@ use Rattle.firmware.proofs.Faces.{read-refused, size, read-framed}
 use borrow.Author.Needs.{needs}
 use Rattle.firmware.proofs.klarvesimo_read.Statement.{statement}
 use Rattle.firmware.proofs.klarvesimo_read.Tie as tie
-use Rattle.firmware.proofs.klarvesimo_read.Reads as reads
-use Rattle.firmware.proofs.klarvesimo_read.Lts as lts
-use Rattle.firmware.proofs.read_frame.Reads as read-frame-reads
-use Rattle.framing.proofs.frame.Reads as frame-reads
 
 element-write-consumed : tie.Need-element-write-consumed
 element-write-consumed c = search needs

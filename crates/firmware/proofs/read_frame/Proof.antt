@@ -3,11 +3,6 @@ use Rattle.firmware.proofs.Faces.{malformed-line, read-line, short-line
 use borrow.Author.Needs.{needs}
 use Rattle.firmware.proofs.read_frame.Statement.{statement}
 use Rattle.firmware.proofs.read_frame.Tie as tie
-use Rattle.firmware.proofs.read_frame.Reads as reads
-use Rattle.firmware.proofs.read_frame.Lts as lts
-use Rattle.messagenumbers.proofs.hand_over.Reads as hand-over-reads
-use Rattle.messagenumbers.proofs.start_numbers.Reads as start-numbers-reads
-use Rattle.startline.proofs.start_line.Reads as start-line-reads
 
 start-line-requires : tie.Need-start-line-requires
 start-line-requires c κs = search needs

@@ -1,95 +1,23 @@
--- `framing::frame` meets its contract: each step's answer is that of its reader, and what is left of the opening goes on from it.
--- Assumes nothing.
+-- `framing::frame` meets its contract: the opening that was read, and then its measure. Assumes nothing.
 use mathlib.Core.Path.{_≡_, sym, ap, _∙_}
 use mathlib.Core.List.{List}
 use Prim.Native.Nat.{ℕ}
 use lib.ListN.{length}
-use Rattle.octets.specs.Octets.{bytes}
-use Rattle.readers.specs.declared.Place.{Place}
-use Rattle.framing.specs.Framing.{opening, framed, framing}
-use Rattle.framing.specs.Steps.{valueOf}
-use Rattle.framing.specs.declared.Opening.{Opening}
-use Rattle.framing.proofs.Stepping.{by-first, by-text, by-number, by-last, framedAt, measured-alike}
 use borrow.Author.Needs.{needs}
+use Rattle.framing.specs.Framing.{opening, framing}
+use Rattle.framing.specs.Steps.{frontOf}
+use Rattle.framing.specs.declared.Front.{Front}
+use Rattle.framing.proofs.Stepping.{framedBy, by-front}
 use Rattle.framing.proofs.frame.Statement.{statement}
 use Rattle.framing.proofs.frame.Tie as tie
 
--- past the last step: where each step ended, and the opening that they read
-module _ (c : tie.After-text-after3) where
-  abbrev stated : tie.After-number-after3
-  stated = c .before .before
+-- the framing by what was read, which is the front f
+by-opening : (s : List ℕ) (r f : Front) → r ≡ frontOf (opening s) → r ≡ f → framedBy f (length s) ≡ framing s
+unfolding framing
+by-opening s r f e g = ap (λ (x : Front). framedBy x (length s)) (sym g ∙ e) ∙ by-front (opening s) (length s)
 
-  abbrev space : tie.After-text-after2
-  space = stated .before
-
-  abbrev minor : tie.After-number-after2
-  minor = space .before .before
-
-  abbrev dot : tie.After-text-after
-  dot = minor .before
-
-  abbrev major : tie.After-number-after
-  major = dot .before .before
-
-  abbrev mrcp : tie.After-text
-  mrcp = major .before
-
-  abbrev s : List ℕ
-  s = mrcp .before .before .before .args .s .now
-
-  abbrev o : Opening
-  o = record {
-    major = valueOf (major .number-after .result);
-    minor = valueOf (minor .number-after2 .result);
-    stated = valueOf (stated .number-after3 .result);
-  }
-
-  by-steps : (p : Place) → c .text-after3 .result ≡ p → framing s ≡ framedAt p o (length s)
-  unfolding framing opening
-  by-steps p e =
-      ap (λ r. framed r (length s))
-      (by-first s (bytes "MRCP/") _ _ (mrcp .text .ensures)
-      ∙ by-number s (mrcp .text .result) 2 _ _ (major .number-after .ensures)
-      ∙ by-text s (major .number-after .result) (bytes ".") _ _ (dot .text-after .ensures)
-      ∙ by-number s (dot .text-after .result) 2 _ _ (minor .number-after2 .ensures)
-      ∙ by-text s (minor .number-after2 .result) (bytes " ") _ _ (space .text-after2 .ensures)
-      ∙ by-number s (space .text-after2 .result) 19 _ _ (stated .number-after3 .ensures)
-      ∙ by-text s (stated .number-after3 .result) (bytes " ") _ _ (c .text-after3 .ensures))
-      ∙ by-last s (c .text-after3 .result) o (length s)
-      ∙ ap (λ p. framedAt p o (length s)) e
-
-slice-aggregate-text : tie.Need-slice-aggregate-text
-slice-aggregate-text c = search needs
-
-text-requires : tie.Need-text-requires
-text-requires c κs = search needs
-
-number-after-requires : tie.Need-number-after-requires
-number-after-requires c κs = search needs
-
-slice-aggregate-text-after : tie.Need-slice-aggregate-text-after
-slice-aggregate-text-after c = search needs
-
-text-after-requires : tie.Need-text-after-requires
-text-after-requires c κs = search needs
-
-number-after-requires-2 : tie.Need-number-after-requires-2
-number-after-requires-2 c κs = search needs
-
-slice-aggregate-text-after-2 : tie.Need-slice-aggregate-text-after-2
-slice-aggregate-text-after-2 c = search needs
-
-text-after-requires-2 : tie.Need-text-after-requires-2
-text-after-requires-2 c κs = search needs
-
-number-after-requires-3 : tie.Need-number-after-requires-3
-number-after-requires-3 c κs = search needs
-
-slice-aggregate-text-after-3 : tie.Need-slice-aggregate-text-after-3
-slice-aggregate-text-after-3 c = search needs
-
-text-after-requires-3 : tie.Need-text-after-requires-3
-text-after-requires-3 c κs = search needs
+read-opening-requires : tie.Need-read-opening-requires
+read-opening-requires c κs = search needs
 
 enum-told : tie.Need-enum-told
 enum-told c = search needs
@@ -97,55 +25,36 @@ enum-told c = search needs
 enum-told-2 : tie.Need-enum-told-2
 enum-told-2 c = search needs
 
-enum-known-end : tie.Need-enum-known-end
-enum-known-end c = search needs
-
-value-requires : tie.Need-value-requires
-value-requires c κs = search needs
-
-value-requires-2 : tie.Need-value-requires-2
-value-requires-2 c κs = search needs
-
-value-requires-3 : tie.Need-value-requires-3
-value-requires-3 c κs = search needs
+enum-known-front : tie.Need-enum-known-front
+enum-known-front c = search needs
 
 measure-requires : tie.Need-measure-requires
 measure-requires c κs = search needs
 
 returns : tie.Need-returns
-returns c = sym (by-steps (c .before .before) Place.Short (c .enum-told .given .1))
+returns c =
+    let s = c .before .before in
+    by-opening (s .before .before .args .s .now) _ _ (s .read-opening .ensures) (c .enum-told .given .1)
 
 returns-2 : tie.Need-returns-2
-returns-2 c = sym (by-steps (c .before .before) Place.Wrong (c .enum-told2 .given .1))
+returns-2 c =
+    let s = c .before .before in
+    by-opening (s .before .before .args .s .now) _ _ (s .read-opening .ensures) (c .enum-told2 .given .1)
 
 returns-3 : tie.Need-returns-3
 returns-3 c =
-    let e = c .before .before .before .before .before .before .before in
+    let s = c .before .before .before .before in
     c .measure .ensures
-    ∙ measured-alike _ _ (c .before .before .before .value .ensures) (c .before .before .value2 .ensures) (c .before .value3 .ensures)
-    ∙ sym (by-steps e (Place.At _) (c .before .before .before .before .before .end .given .1))
+    ∙ by-opening (s .before .before .args .s .now) _ _ (s .read-opening .ensures) (c .before .before .front .given .1)
 
 pub frame-spec : {M : Type 1} → statement M
 frame-spec =
     tie.close
     (tie.spec
-    slice-aggregate-text
-    text-requires
-    number-after-requires
-    slice-aggregate-text-after
-    text-after-requires
-    number-after-requires-2
-    slice-aggregate-text-after-2
-    text-after-requires-2
-    number-after-requires-3
-    slice-aggregate-text-after-3
-    text-after-requires-3
+    read-opening-requires
     enum-told
     enum-told-2
-    enum-known-end
-    value-requires
-    value-requires-2
-    value-requires-3
+    enum-known-front
     measure-requires
     returns
     returns-2

@@ -9,7 +9,8 @@ use Rattle.header.proofs.agrees.Statement.{statement}
 use Rattle.header.proofs.agrees.Tie as tie
 
 returns : tie.Need-returns
-returns c = let a = c .before .before .args in agrees-absent (part (a .f .now) (a .x .value)) (a .mask) (a .left) (c .if1 .taken)
+returns c = let a = c .before .before .args in agrees-absent (part (a .f .now) (a .p)) (a .mask) (a .left)
+    (c .if1 .taken)
 
 part-requires : tie.Need-part-requires
 part-requires c κs = search needs
@@ -25,15 +26,19 @@ enum-known-n c = search needs
 
 returns-2 : tie.Need-returns-2
 returns-2 c =
-    let a = c .before .before .before .before .before .before .before .args in
-    ap (equals (a .left)) (sym (c .enum-told .given .1) ∙ c .before .before .number .ensures ∙ ap statedOf (c .before .before .before .part .ensures))
-    ∙ agrees-given (part (a .f .now) (a .x .value)) (a .mask) (a .left) (c .before .before .before .before .before .if1 .left)
+    let a = c .before .before .before .before .before .before .args in
+    ap (equals (a .left))
+    (sym (c .enum-told .given .1) ∙ c .before .before .number .ensures
+    ∙ ap statedOf (c .before .before .before .part .ensures))
+    ∙ agrees-given (part (a .f .now) (a .p)) (a .mask) (a .left) (c .before .before .before .before .if1 .left)
 
 returns-3 : tie.Need-returns-3
 returns-3 c =
-    let a = c .before .before .before .before .before .before .before .before .args in
-    ap (equals (a .left)) (sym (c .before .n .given .1) ∙ c .before .before .before .number .ensures ∙ ap statedOf (c .before .before .before .before .part .ensures))
-    ∙ agrees-given (part (a .f .now) (a .x .value)) (a .mask) (a .left) (c .before .before .before .before .before .before .if1 .left)
+    let a = c .before .before .before .before .before .before .before .args in
+    ap (equals (a .left))
+    (sym (c .before .n .given .1) ∙ c .before .before .before .number .ensures
+    ∙ ap statedOf (c .before .before .before .before .part .ensures))
+    ∙ agrees-given (part (a .f .now) (a .p)) (a .mask) (a .left) (c .before .before .before .before .before .if1 .left)
 
 pub agrees-spec : {M : Type 1} → statement M
 agrees-spec =

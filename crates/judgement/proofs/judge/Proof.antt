@@ -7,8 +7,9 @@ use Rattle.synth.specs.Request.{methodOf}
 use Rattle.synth.specs.States as S
 use Rattle.synth.specs.declared.Method.{Method}
 use Rattle.channel.specs.Channel.{view}
-use Rattle.outcomes.specs.Outcomes.{asked, Makes}
+use Rattle.outcomes.specs.Outcomes.{asked}
 use Rattle.outcomes.proofs.Making.{makes-failed}
+use Rattle.judgement.specs.Judged.{Judges}
 use Rattle.judgement.proofs.Order.{outdated, current}
 use borrow.Author.Needs.{needs}
 use Rattle.judgement.proofs.judge.Statement.{statement}
@@ -24,12 +25,14 @@ failed-requires : tie.Need-failed-requires
 failed-requires c κs = search needs
 
 returns : tie.Need-returns
-returns c = λ h few.
-    let a = c .before .before .before .before .before .args in
+returns c =
+    λ h few.
+    let a = c .before .before .before .before .before .before .args in
+    let v = view (a .last) (a .c) in
     let fs = onFields (part (a .f .now)) (fieldsFrom (a .f .now) (a .at)) in
     let m = methodOf (part (a .f .now) (a .name)) in
-    makes-failed (a .c) (asked (a .major) (a .minor) m (a .id) fs) _ 502 (c .before .version-unsupported .ensures) (c .failed .ensures)
-    (outdated (view (a .c)) (a .major) (a .minor) m (a .id) fs (sym (c .before .before .before .is-current .ensures) ∙ not-true _ (c .before .before .if1 .taken)))
+    makes-failed v (asked (a .major) (a .minor) m (a .id) fs) (a .c .state) (a .c .queue) 502 (c .before .version-unsupported .ensures) (c .failed .ensures)
+    (outdated v (a .major) (a .minor) m (a .id) fs (sym (c .before .before .before .before .is-current .ensures) ∙ not-true _ (c .before .before .before .if1 .taken)))
 
 part-requires : tie.Need-part-requires
 part-requires c κs = search needs
@@ -37,23 +40,23 @@ part-requires c κs = search needs
 method-requires : tie.Need-method-requires
 method-requires c κs = search needs
 
-ask-requires : tie.Need-ask-requires
-ask-requires c κs = search needs
+read-requires : tie.Need-read-requires
+read-requires c κs = search needs
 
 judge-fields-requires : tie.Need-judge-fields-requires
 judge-fields-requires c κs = search needs
 
 returns-2 : tie.Need-returns-2
-returns-2 c = λ h few.
+returns-2 c =
+    λ h few.
     let a = c .before .before .before .before .before .before .before .args in
-    let v = view (a .c) in
+    let v = view (a .last) (a .c) in
     let fs = onFields (part (a .f .now)) (fieldsFrom (a .f .now) (a .at)) in
     let m = c .before .before .method .result in
     let goes = current v (a .major) (a .minor) m (a .id) fs (sym (c .before .before .before .before .before .is-current .ensures) ∙ not-false _ (c .before .before .before .before .if1 .left)) in
-    subst (λ (m : Method). Makes (v .name) (c .judge-fields .result) (S.judge v (asked (a .major) (a .minor) m (a .id) fs)))
+    subst (λ (m : Method). Judges v (c .judge-fields .result) (S.judge v (asked (a .major) (a .minor) m (a .id) fs)))
     (c .before .before .method .ensures ∙ ap methodOf (c .before .before .before .part .ensures))
-    (subst (Makes (v .name) (c .judge-fields .result)) (sym goes)
-    (c .judge-fields .ensures (a .major) (a .minor) fs h few (c .before .ask .ensures (a .major) (a .minor) (a .id))))
+    (subst (Judges v (c .judge-fields .result)) (sym goes) (c .judge-fields .ensures h few (a .major) (a .minor) fs (c .before .read .ensures)))
 
 pub judge-spec : {M : Type 1} → statement M
 judge-spec =
@@ -65,6 +68,6 @@ judge-spec =
     returns
     part-requires
     method-requires
-    ask-requires
+    read-requires
     judge-fields-requires
     returns-2)

@@ -1,10 +1,11 @@
 -- `judgement::judge_fields` fails early, or goes on with this id as the last one seen. Assumes nothing.
 use mathlib.Core.Path.{refl, sym, ap, subst, _∙_}
+use Rattle.synth.specs.declared.LastId.the-variants.{Seen}
 use Rattle.channel.specs.Channel.{view}
 use Rattle.values.specs.Values.{verdictOf}
 use Rattle.outcomes.specs.Outcomes.{asked, Makes}
 use Rattle.outcomes.proofs.Making.{makes-failed}
-use Rattle.judgement.proofs.Order.{early-fails, early-passes, seen-makes}
+use Rattle.judgement.proofs.Order.{early-fails, early-passes}
 use borrow.Author.Needs.{needs}
 use Rattle.judgement.proofs.judge_fields.Statement.{statement}
 use Rattle.judgement.proofs.judge_fields.Tie as tie
@@ -21,28 +22,26 @@ failed-requires c κs = search needs
 enum-told : tie.Need-enum-told
 enum-told c = search needs
 
-seen-requires : tie.Need-seen-requires
-seen-requires c κs = search needs
-
 act-requires : tie.Need-act-requires
 act-requires c κs = search needs
 
 returns : tie.Need-returns
-returns c = λ major minor fs h few t.
-    let a = c .before .before .before .before .before .before .args in
-    let v = view (a .c) in
-    let said = c .before .before .before .before .early .ensures major minor (a .m) fs h (t .good) (t .name) in
-    makes-failed (a .c) (asked major minor (a .m) (a .id) fs) _ _ refl (c .failed .ensures)
+returns c =
+    λ h few major minor fs t.
+    let a = c .before .before .before .before .before .before .before .before .args in
+    let v = view (a .last) (a .c) in
+    let said = c .before .before .before .before .early .ensures h v major minor (a .m) fs refl refl t in
+    makes-failed v (asked major minor (a .m) (a .id) fs) (a .c .state) (a .c .queue) _ refl (c .failed .ensures)
     (early-fails v major minor (a .m) (a .id) fs _ (ap verdictOf (sym (c .before .before .verdict .given .1)) ∙ said))
 
 returns-2 : tie.Need-returns-2
-returns-2 c = λ major minor fs h few t.
-    let a = c .before .before .before .before .before .before .args in
-    let v = view (a .c) in
-    let r = asked major minor (a .m) (a .id) fs in
-    let said = c .before .before .before .before .early .ensures major minor (a .m) fs h (t .good) (t .name) in
-    let passed = early-passes v major minor (a .m) (a .id) fs (ap verdictOf (sym (c .before .before .enum-told .given .1)) ∙ said) in
-    subst (Makes (v .name) (c .act .result)) (sym passed) (seen-makes v (c .act .result) r (c .before .seen .ensures) (c .act .ensures major minor fs t) few)
+returns-2 c =
+    λ h few major minor fs t.
+    let a = c .before .before .before .before .before .before .before .args in
+    let v = view (a .last) (a .c) in
+    let said = c .before .before .before .early .ensures h v major minor (a .m) fs refl refl t in
+    let passed = early-passes v major minor (a .m) (a .id) fs (ap verdictOf (sym (c .before .enum-told .given .1)) ∙ said) in
+    subst (Makes (view (Seen (a .id)) (a .c)) (c .act .result)) (sym passed) (c .act .ensures few (view (Seen (a .id)) (a .c)) major minor fs t)
 
 pub judge-fields-spec : {M : Type 1} → statement M
 judge-fields-spec =
@@ -52,7 +51,6 @@ judge-fields-spec =
     enum-known-verdict
     failed-requires
     enum-told
-    seen-requires
     act-requires
     returns
     returns-2)

@@ -1,10 +1,15 @@
 -- `klarvesimo::klarvesimo_handle` loads the channel, and saves it where the call was handled. Assumes nothing.
-use borrow.Author.Tests.{not-true, not-false}
 use Rattle.synth.specs.Calls.{input}
-use Rattle.klarvesimo.proofs.Calling.{handle-unfit, handle-refused, handle-answered}
+use Rattle.klarvesimo.proofs.Calling.{handle-refused, handle-answered}
 use borrow.Author.Needs.{needs}
 use Rattle.klarvesimo.proofs.klarvesimo_handle.Statement.{statement}
 use Rattle.klarvesimo.proofs.klarvesimo_handle.Tie as tie
+
+load-requires : tie.Need-load-requires
+load-requires c κs = search needs
+
+handle-requires : tie.Need-handle-requires
+handle-requires c κs = search needs
 
 element-write-counts : tie.Need-element-write-counts
 element-write-counts c = search needs
@@ -12,30 +17,13 @@ element-write-counts c = search needs
 element-write-counts-2 : tie.Need-element-write-counts-2
 element-write-counts-2 c = search needs
 
-load-requires : tie.Need-load-requires
-load-requires c κs = search needs
-
-returns : tie.Need-returns
-returns c =
-    let a = c .before .before .before .before .before .before .before .args in
-    handle-unfit (a .channel .now) (a .out .now) (a .counts .now) (input (a .s .now)) (c .before .before .load .ensures .unfit (not-true _ (c .if1 .taken)))
-
-handle-requires : tie.Need-handle-requires
-handle-requires c κs = search needs
-
-element-write-counts-3 : tie.Need-element-write-counts-3
-element-write-counts-3 c = search needs
-
-element-write-counts-4 : tie.Need-element-write-counts-4
-element-write-counts-4 c = search needs
-
 same-length : tie.Need-same-length
 same-length c = search needs
 
-returns-2 : tie.Need-returns-2
-returns-2 c =
-    let a = c .before .before .before .before .before .before .before .before .before .before .before .before .before .before .args in
-    handle-refused (a .channel .now) (a .out .now) (a .counts .now) (input (a .s .now)) _ (c .before .before .before .before .before .before .before .before .before .load .ensures .fit (not-false _ (c .before .before .before .before .before .before .before .if1 .left))) _ _ (c .before .before .before .before .handle .ensures) (c .if2 .taken)
+returns : tie.Need-returns
+returns c =
+    let a = c .before .before .before .before .before .before .before .before .before .before .before .args in
+    handle-refused (a .channel .now) (a .out .now) (a .counts .now) (input (a .s .now)) _ (c .before .before .before .before .before .before .before .load .ensures) _ _ (c .before .before .before .before .handle .ensures) (c .if1 .taken)
 
 save-requires : tie.Need-save-requires
 save-requires c κs = search needs
@@ -43,24 +31,21 @@ save-requires c κs = search needs
 same-length-2 : tie.Need-same-length-2
 same-length-2 c = search needs
 
-returns-3 : tie.Need-returns-3
-returns-3 c =
-    let a = c .before .before .before .before .before .before .before .before .before .before .before .before .before .before .before .before .args in
-    handle-answered (a .channel .now) (a .out .now) (a .counts .now) (input (a .s .now)) _ (c .before .before .before .before .before .before .before .before .before .before .before .load .ensures .fit (not-false _ (c .before .before .before .before .before .before .before .before .before .if1 .left))) _ _ (c .before .before .before .before .before .before .handle .ensures) (c .before .before .if2 .left) (c .save .ensures .0)
+returns-2 : tie.Need-returns-2
+returns-2 c =
+    let a = c .before .before .before .before .before .before .before .before .before .before .before .before .before .before .args in
+    handle-answered (a .channel .now) (a .out .now) (a .counts .now) (input (a .s .now)) _ (c .before .before .before .before .before .before .before .before .before .before .load .ensures) _ _ (c .before .before .before .before .before .before .before .handle .ensures) (c .before .before .before .if1 .left) (c .save .ensures .0)
 
 pub klarvesimo-handle-spec : {M : Type 1} → statement M
 klarvesimo-handle-spec =
     tie.close
     (tie.spec
+    load-requires
+    handle-requires
     element-write-counts
     element-write-counts-2
-    load-requires
-    returns
-    handle-requires
-    element-write-counts-3
-    element-write-counts-4
     same-length
-    returns-2
+    returns
     save-requires
     same-length-2
-    returns-3)
+    returns-2)

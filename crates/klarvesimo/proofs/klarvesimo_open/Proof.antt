@@ -11,7 +11,7 @@ save-requires : tie.Need-save-requires
 save-requires c κs = search needs
 
 returns : tie.Need-returns
-returns c = opens (c .before .before .before .before .args .name .now) (c .before .before .open-channel .result) _ (c .before .before .open-channel .ensures .0) (c .save .ensures .0)
+returns c = opens (c .before .before .before .before .before .args .name .now) (c .before .before .before .open-channel .result) _ (c .before .before .before .open-channel .ensures) (c .save .ensures .0)
 
 pub klarvesimo-open-spec : {M : Type 1} → statement M
 klarvesimo-open-spec = tie.close (tie.spec open-channel-requires save-requires returns)

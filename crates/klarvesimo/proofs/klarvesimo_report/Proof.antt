@@ -1,35 +1,26 @@
 -- `klarvesimo::klarvesimo_report` loads the channel, and saves it where the call was handled. Assumes nothing.
-use borrow.Author.Tests.{not-true, not-false}
 use Rattle.synth.specs.Calls.{cause}
-use Rattle.klarvesimo.proofs.Calling.{report-unfit, report-refused, report-answered}
+use Rattle.klarvesimo.proofs.Calling.{report-refused, report-answered}
 use borrow.Author.Needs.{needs}
 use Rattle.klarvesimo.proofs.klarvesimo_report.Statement.{statement}
 use Rattle.klarvesimo.proofs.klarvesimo_report.Tie as tie
 
-element-write-written : tie.Need-element-write-written
-element-write-written c = search needs
-
 load-requires : tie.Need-load-requires
 load-requires c κs = search needs
-
-returns : tie.Need-returns
-returns c =
-    let a = c .before .before .before .before .before .before .args in
-    report-unfit (a .channel .now) (a .out .now) (a .written .now) (cause (a .cause)) (c .before .before .load .ensures .unfit (not-true _ (c .if1 .taken)))
 
 report-requires : tie.Need-report-requires
 report-requires c κs = search needs
 
-element-write-written-2 : tie.Need-element-write-written-2
-element-write-written-2 c = search needs
+element-write-written : tie.Need-element-write-written
+element-write-written c = search needs
 
 same-length : tie.Need-same-length
 same-length c = search needs
 
-returns-2 : tie.Need-returns-2
-returns-2 c =
-    let a = c .before .before .before .before .before .before .before .before .before .before .before .before .before .args in
-    report-refused (a .channel .now) (a .out .now) (a .written .now) (cause (a .cause)) _ (c .before .before .before .before .before .before .before .before .before .load .ensures .fit (not-false _ (c .before .before .before .before .before .before .before .if1 .left))) _ _ (c .before .before .before .before .report .ensures) (c .if2 .taken)
+returns : tie.Need-returns
+returns c =
+    let a = c .before .before .before .before .before .before .before .before .before .before .args in
+    report-refused (a .channel .now) (a .out .now) (a .written .now) (cause (a .cause)) _ (c .before .before .before .before .before .before .before .load .ensures) _ _ (c .before .before .before .before .report .ensures) (c .if1 .taken)
 
 save-requires : tie.Need-save-requires
 save-requires c κs = search needs
@@ -37,22 +28,20 @@ save-requires c κs = search needs
 same-length-2 : tie.Need-same-length-2
 same-length-2 c = search needs
 
-returns-3 : tie.Need-returns-3
-returns-3 c =
-    let a = c .before .before .before .before .before .before .before .before .before .before .before .before .before .before .before .args in
-    report-answered (a .channel .now) (a .out .now) (a .written .now) (cause (a .cause)) _ (c .before .before .before .before .before .before .before .before .before .before .before .load .ensures .fit (not-false _ (c .before .before .before .before .before .before .before .before .before .if1 .left))) _ _ (c .before .before .before .before .before .before .report .ensures) (c .before .before .if2 .left) (c .save .ensures .0)
+returns-2 : tie.Need-returns-2
+returns-2 c =
+    let a = c .before .before .before .before .before .before .before .before .before .before .before .before .before .args in
+    report-answered (a .channel .now) (a .out .now) (a .written .now) (cause (a .cause)) _ (c .before .before .before .before .before .before .before .before .before .before .load .ensures) _ _ (c .before .before .before .before .before .before .before .report .ensures) (c .before .before .before .if1 .left) (c .save .ensures .0)
 
 pub klarvesimo-report-spec : {M : Type 1} → statement M
 klarvesimo-report-spec =
     tie.close
     (tie.spec
-    element-write-written
     load-requires
-    returns
     report-requires
-    element-write-written-2
+    element-write-written
     same-length
-    returns-2
+    returns
     save-requires
     same-length-2
-    returns-3)
+    returns-2)

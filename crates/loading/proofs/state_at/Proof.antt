@@ -1,6 +1,6 @@
 -- `loading::state_at` meets its contract. Assumes nothing.
 use mathlib.Core.Path.{_≡_, ap}
-use Rattle.words.specs.Words.{stateAt}
+use Rattle.channelnumbers.specs.Numbers.{stateAt}
 use Rattle.loading.proofs.Loading.{paused-at}
 use borrow.Author.Needs.{needs}
 use Rattle.loading.proofs.state_at.Statement.{statement}

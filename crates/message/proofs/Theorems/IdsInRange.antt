@@ -4,10 +4,10 @@ use mathlib.Core.Path.{_≡_}
 use mathlib.Core.List.{List}
 use Prim.Native.Nat.{ℕ, _<_}
 use Rattle.message.specs.Message.{InRange, Start, request, response, event, Fields, Head, message}
-use Rattle.message.specs.Reading.{reading, heard}
+use Rattle.message.specs.Reading.{reading, readBytes}
 use Rattle.message.specs.declared.Span.{Span}
 use Rattle.message.specs.declared.RequestState.{RequestState}
-use Rattle.message.proofs.Says.{says, heard-ranged}
+use Rattle.message.proofs.Says.{says, bytes-ranged}
 
 -- the request-id, whichever of the three kinds it is
 abbrev pub idIn : {P : Type 0} → Start P → ℕ
@@ -23,12 +23,12 @@ id-in (event name i r) h = h
 pub id-read : (s : List ℕ) (h : Head) (st : Start Span) (fs : Fields Span) → reading s ≡ message h st fs → idIn st < 4294967296
 id-read s h st fs e = id-in st (says s h st fs e .ranged)
 
-pub id-heard : (s : List ℕ) (h : Head) (st : Start (List ℕ)) (fs : Fields (List ℕ)) → heard s ≡ message h st fs → idIn st < 4294967296
-id-heard s h st fs e = id-in st (heard-ranged s h st fs e)
+pub id-bytes : (s : List ℕ) (h : Head) (st : Start (List ℕ)) (fs : Fields (List ℕ)) → readBytes s ≡ message h st fs → idIn st < 4294967296
+id-bytes s h st fs e = id-in st (bytes-ranged s h st fs e)
 
 module _ (s : List ℕ) (h : Head) (i c : ℕ) (r : RequestState) where
   pub status-read : (fs : Fields Span) → reading s ≡ message h (response i c r) fs → c < 1000
   status-read fs e = says s h (response i c r) fs e .ranged .1
 
-  pub status-heard : (fs : Fields (List ℕ)) → heard s ≡ message h (response i c r) fs → c < 1000
-  status-heard fs e = heard-ranged s h (response i c r) fs e .1
+  pub status-bytes : (fs : Fields (List ℕ)) → readBytes s ≡ message h (response i c r) fs → c < 1000
+  status-bytes fs e = bytes-ranged s h (response i c r) fs e .1

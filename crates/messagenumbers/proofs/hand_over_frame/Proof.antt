@@ -6,9 +6,6 @@ use Prim.Native.Nat.{ℕ}
 use Rattle.messagenumbers.proofs.Handing.{too-short, fits}
 use Rattle.messagenumbers.proofs.hand_over_frame.Statement.{statement}
 use Rattle.messagenumbers.proofs.hand_over_frame.Tie as tie
-use Rattle.messagenumbers.proofs.hand_over_frame.Reads as reads
-use Rattle.messagenumbers.proofs.hand_over_frame.Lts as lts
-use Rattle.messagenumbers.proofs.put_four.Reads as put-four-reads
 
 returns : tie.Need-returns
 returns c =

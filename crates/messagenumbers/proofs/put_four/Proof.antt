@@ -1,12 +1,10 @@
 -- `messagenumbers::put_four` meets its contract. Assumes nothing.
 use native.Mathlib.Omega.{arith}
 use lib.ListN.{length-set}
-use Rattle.messagenumbers.proofs.Four.{four}
+use Rattle.header.proofs.Four.{four}
 use borrow.Author.Needs.{needs}
 use Rattle.messagenumbers.proofs.put_four.Statement.{statement}
 use Rattle.messagenumbers.proofs.put_four.Tie as tie
-use Rattle.messagenumbers.proofs.put_four.Reads as reads
-use Rattle.messagenumbers.proofs.put_four.Lts as lts
 
 mul-out : tie.Need-mul-out
 mul-out c = search needs

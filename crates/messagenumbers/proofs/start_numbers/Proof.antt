@@ -3,9 +3,6 @@ use borrow.Author.Needs.{needs}
 use Rattle.messagenumbers.proofs.Starts.{of-request, of-response, of-event}
 use Rattle.messagenumbers.proofs.start_numbers.Statement.{statement}
 use Rattle.messagenumbers.proofs.start_numbers.Tie as tie
-use Rattle.messagenumbers.proofs.start_numbers.Reads as reads
-use Rattle.messagenumbers.proofs.start_numbers.Lts as lts
-use Rattle.messagenumbers.proofs.state_number.Reads as state-number-reads
 
 enum-known-start : tie.Need-enum-known-start
 enum-known-start c = search needs

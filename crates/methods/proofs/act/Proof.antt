@@ -1,13 +1,45 @@
 -- `methods::act` goes by the method. Assumes nothing.
-use mathlib.Core.Path.{sym, subst}
+use Prim.Native.Nat.{ℕ}
+use mathlib.Core.Path.{_≡_, refl, sym, subst, _∙_}
+use mathlib.Core.List.{List, map}
+use Rattle.lists.specs.Lists.{bit}
+use Rattle.message.specs.Message.{Fields}
+use Rattle.message.specs.Known.{indexOf}
+use Rattle.synth.specs.Channel.{View, withQueue}
+use Rattle.synth.specs.Request.{Request, ignored, ignoresAny}
+use Rattle.synth.specs.Judgement.{late}
+use Rattle.synth.specs.States.{afterLate}
 use Rattle.synth.specs.declared.Method.{Method}
-use Rattle.channel.specs.Channel.{view}
-use Rattle.outcomes.specs.Outcomes.{asked}
+use Rattle.synth.specs.declared.State.{State}
+use Rattle.queue.specs.Queue.{listOf}
+use Rattle.queue.specs.declared.Queue.{Queue}
+use Rattle.header.specs.declared.Header.{Header}
+use Rattle.request.specs.Telling.{Tells}
+use Rattle.request.proofs.Telling.{each, ignores}
+use Rattle.outcomes.specs.Outcomes.{asked, Makes}
+use Rattle.outcomes.specs.declared.Outcome.{Outcome}
 use Rattle.outcomes.proofs.Making.{makes-failed}
-use Rattle.methods.proofs.Methods.{Does, unknown-fails}
+use Rattle.methods.proofs.Methods.{unknown-fails}
 use borrow.Author.Needs.{needs}
 use Rattle.methods.proofs.act.Statement.{statement}
 use Rattle.methods.proofs.act.Tie as tie
+
+-- what is shown, for one method
+abbrev Does : State → Queue → View → List ℕ → Header → Outcome → ℕ → ℕ → ℕ → Fields (List ℕ) → Method → Type 0
+Does state q v f h o major minor id fs m =
+    let w : View = withQueue state (listOf q) v in
+    let r : Request = asked major minor m id fs in
+    Tells f h fs → Makes w o (afterLate (late w r) w r)
+
+asked-ignored : (c : tie.After-meets) (v : View) (major minor : ℕ) (fs : Fields (List ℕ)) → let a = c .before .before .args in
+    Tells (a .f .now) (a .h) fs → (m : Method) → map (λ k. bit 156 (indexOf k)) each ≡ map (ignored m) each
+    → c .meets .result ≡ ignoresAny (asked major minor m (a .id) fs)
+asked-ignored c v major minor fs told m e =
+    let a = c .before .before .args in
+    c .meets .ensures ∙ ignores (a .f .now) (a .h) fs told major minor (a .id) m 156 e
+
+meets-requires : tie.Need-meets-requires
+meets-requires c κs = search needs
 
 enum-told : tie.Need-enum-told
 enum-told c = search needs
@@ -55,46 +87,54 @@ failed-requires : tie.Need-failed-requires
 failed-requires c κs = search needs
 
 returns : tie.Need-returns
-returns c = λ major minor fs t few.
-    let a = c .before .before .before .before .args in
-    subst (Does (view (a .c)) (a .f .now) (a .q) (c .speak .result) major minor (a .id) fs) (sym (c .before .enum-told .given .1)) (λ t. c .speak .ensures major minor fs (t .ignored) (t .kill) (t .content)) t
+returns c =
+    λ few v major minor fs.
+    let a = c .before .before .before .before .before .args in
+    subst (Does (a .state) (a .q) v (a .f .now) (a .h) (c .speak .result) major minor (a .id) fs) (sym (c .before .enum-told .given .1)) (c .speak .ensures v major minor fs)
 
 returns-2 : tie.Need-returns-2
-returns-2 c = λ major minor fs t few.
-    let a = c .before .before .before .before .args in
-    subst (Does (view (a .c)) (a .f .now) (a .q) (c .stop .result) major minor (a .id) fs) (sym (c .before .enum-told2 .given .1)) (λ t. c .stop .ensures major minor fs (t .ignored) (t .list) few) t
+returns-2 c =
+    λ few v major minor fs.
+    let a = c .before .before .before .before .before .args in
+    subst (Does (a .state) (a .q) v (a .f .now) (a .h) (c .stop .result) major minor (a .id) fs) (sym (c .before .enum-told2 .given .1)) (c .stop .ensures few v major minor fs)
 
 returns-3 : tie.Need-returns-3
-returns-3 c = λ major minor fs t few.
-    let a = c .before .before .before .before .args in
-    subst (Does (view (a .c)) (a .f .now) (a .q) (c .pause .result) major minor (a .id) fs) (sym (c .before .enum-told3 .given .1)) (λ t. c .pause .ensures major minor fs (t .ignored)) t
+returns-3 c =
+    λ few v major minor fs.
+    let a = c .before .before .before .before .before .args in
+    subst (Does (a .state) (a .q) v (a .f .now) (a .h) (c .pause .result) major minor (a .id) fs) (sym (c .before .enum-told3 .given .1)) (λ told. c .pause .ensures v major minor fs (asked-ignored (c .before .before .before) v major minor fs told Method.Pause refl))
 
 returns-4 : tie.Need-returns-4
-returns-4 c = λ major minor fs t few.
-    let a = c .before .before .before .before .args in
-    subst (Does (view (a .c)) (a .f .now) (a .q) (c .resume .result) major minor (a .id) fs) (sym (c .before .enum-told4 .given .1)) (λ t. c .resume .ensures major minor fs (t .ignored)) t
+returns-4 c =
+    λ few v major minor fs.
+    let a = c .before .before .before .before .before .args in
+    subst (Does (a .state) (a .q) v (a .f .now) (a .h) (c .resume .result) major minor (a .id) fs) (sym (c .before .enum-told4 .given .1)) (λ told. c .resume .ensures v major minor fs (asked-ignored (c .before .before .before) v major minor fs told Method.Resume refl))
 
 returns-5 : tie.Need-returns-5
-returns-5 c = λ major minor fs t few.
-    let a = c .before .before .before .before .args in
-    subst (Does (view (a .c)) (a .f .now) (a .q) (c .control .result) major minor (a .id) fs) (sym (c .before .enum-told5 .given .1)) (λ t. c .control .ensures major minor fs (t .ignored)) t
+returns-5 c =
+    λ few v major minor fs.
+    let a = c .before .before .before .before .before .args in
+    subst (Does (a .state) (a .q) v (a .f .now) (a .h) (c .control .result) major minor (a .id) fs) (sym (c .before .enum-told5 .given .1)) (λ told. c .control .ensures v major minor fs (asked-ignored (c .before .before .before) v major minor fs told Method.Control refl))
 
 returns-6 : tie.Need-returns-6
-returns-6 c = λ major minor fs t few.
-    let a = c .before .before .before .before .args in
-    subst (Does (view (a .c)) (a .f .now) (a .q) (c .barge-in .result) major minor (a .id) fs) (sym (c .before .enum-told6 .given .1)) (λ t. c .barge-in .ensures major minor fs (t .ignored) few) t
+returns-6 c =
+    λ few v major minor fs.
+    let a = c .before .before .before .before .before .args in
+    subst (Does (a .state) (a .q) v (a .f .now) (a .h) (c .barge-in .result) major minor (a .id) fs) (sym (c .before .enum-told6 .given .1)) (λ told. c .barge-in .ensures few v major minor fs (asked-ignored (c .before .before .before) v major minor fs told Method.BargeInOccurred refl))
 
 returns-7 : tie.Need-returns-7
-returns-7 c = λ major minor fs t few.
-    let a = c .before .before .before .before .before .args in
-    subst (Does (view (a .c)) (a .f .now) (a .q) (c .failed .result) major minor (a .id) fs) (sym (c .before .before .enum-told7 .given .1))
-    (λ t. makes-failed (a .c) (asked major minor Method.Unknown (a .id) fs) _ 401 (c .before .method-not-allowed .ensures) (c .failed .ensures)
-    (unknown-fails (view (a .c)) major minor (a .id) fs)) t
+returns-7 c =
+    λ few v major minor fs.
+    let a = c .before .before .before .before .before .before .args in
+    subst (Does (a .state) (a .q) v (a .f .now) (a .h) (c .failed .result) major minor (a .id) fs) (sym (c .before .before .enum-told7 .given .1))
+    (λ told. makes-failed v (asked major minor Method.Unknown (a .id) fs) (a .state) (a .q) 401 (c .before .method-not-allowed .ensures) (c .failed .ensures)
+    (unknown-fails (withQueue (a .state) (listOf (a .q)) v) major minor (a .id) fs))
 
 pub act-spec : {M : Type 1} → statement M
 act-spec =
     tie.close
     (tie.spec
+    meets-requires
     enum-told
     speak-requires
     enum-told-2

@@ -1,13 +1,12 @@
 -- `methods::control` goes by the state. Assumes nothing.
-use mathlib.Core.Path.{sym, ap, _∙_, refl}
+use mathlib.Core.Path.{refl, sym, _∙_}
 use Rattle.message.specs.declared.RequestState.the-variants.{Complete}
-use Rattle.synth.specs.Channel.{isIdle}
+use Rattle.synth.specs.Channel.{withQueue}
 use Rattle.synth.specs.declared.Method.{Method}
-use Rattle.channel.specs.Channel.{view}
-use Rattle.channel.proofs.Views.{state-is}
+use Rattle.queue.specs.Queue.{listOf}
 use Rattle.outcomes.specs.Outcomes.{asked}
 use Rattle.outcomes.proofs.Making.{makes-failed, makes-success}
-use Rattle.methods.proofs.Methods.{unchanged, active-listed, control-idle, control-busy}
+use Rattle.methods.proofs.Methods.{control-idle, control-busy}
 use borrow.Author.Needs.{needs}
 use Rattle.methods.proofs.control.Statement.{statement}
 use Rattle.methods.proofs.control.Tie as tie
@@ -22,10 +21,11 @@ failed-requires : tie.Need-failed-requires
 failed-requires c κs = search needs
 
 returns : tie.Need-returns
-returns c = λ major minor fs i.
+returns c =
+    λ v major minor fs told.
     let a = c .before .before .before .before .args in
-    makes-failed (a .c) (asked major minor Method.Control (a .id) fs) _ 402 (c .before .not-valid-in-state .ensures) (c .failed .ensures)
-    (control-idle (view (a .c)) major minor (a .id) fs (ap isIdle (state-is (a .c)) ∙ sym (c .before .before .before .is-idle .ensures) ∙ c .before .before .if1 .taken))
+    makes-failed v (asked major minor Method.Control (a .id) fs) (a .state) (a .q) 402 (c .before .not-valid-in-state .ensures) (c .failed .ensures)
+    (control-idle (withQueue (a .state) (listOf (a .q)) v) major minor (a .id) fs (sym (c .before .before .before .is-idle .ensures) ∙ c .before .before .if1 .taken))
 
 list-active-requires : tie.Need-list-active-requires
 list-active-requires c κs = search needs
@@ -34,12 +34,12 @@ succeeded-requires : tie.Need-succeeded-requires
 succeeded-requires c κs = search needs
 
 returns-2 : tie.Need-returns-2
-returns-2 c = λ major minor fs i.
+returns-2 c =
+    λ v major minor fs told.
     let a = c .before .before .before .before .args in
-    let v = view (a .c) in
-    makes-success (a .c) (asked major minor Method.Control (a .id) fs) (a .ignored) i Complete _ (v .state) (v .queue) (c .succeeded .ensures)
-    (active-listed (c .before .list-active .ensures) (unchanged v (v .state) refl))
-    (control-busy v major minor (a .id) fs (ap isIdle (state-is (a .c)) ∙ sym (c .before .before .before .is-idle .ensures) ∙ c .before .before .if1 .left))
+    let w = withQueue (a .state) (listOf (a .q)) v in
+    makes-success w (asked major minor Method.Control (a .id) fs) (a .state) (a .q) told Complete _ (c .succeeded .ensures) (c .before .list-active .ensures) refl
+    (control-busy w major minor (a .id) fs (sym (c .before .before .before .is-idle .ensures) ∙ c .before .before .if1 .left))
 
 pub control-spec : {M : Type 1} → statement M
 control-spec =

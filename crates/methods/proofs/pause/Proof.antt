@@ -1,14 +1,13 @@
 -- `methods::pause` goes by the state. Assumes nothing.
-use mathlib.Core.Path.{sym, ap, _∙_}
+use mathlib.Core.Path.{refl, sym, _∙_}
 use Rattle.message.specs.declared.RequestState.the-variants.{Complete}
-use Rattle.synth.specs.Channel.{isIdle}
+use Rattle.synth.specs.Channel.{withQueue}
 use Rattle.synth.specs.declared.Method.{Method}
 use Rattle.synth.specs.declared.State.the-variants.{Paused}
-use Rattle.channel.specs.Channel.{view}
-use Rattle.channel.proofs.Views.{state-is}
+use Rattle.queue.specs.Queue.{listOf}
 use Rattle.outcomes.specs.Outcomes.{asked}
 use Rattle.outcomes.proofs.Making.{makes-failed, makes-success}
-use Rattle.methods.proofs.Methods.{active-listed, pause-idle, pause-busy}
+use Rattle.methods.proofs.Methods.{pause-idle, pause-busy}
 use borrow.Author.Needs.{needs}
 use Rattle.methods.proofs.pause.Statement.{statement}
 use Rattle.methods.proofs.pause.Tie as tie
@@ -23,13 +22,11 @@ failed-requires : tie.Need-failed-requires
 failed-requires c κs = search needs
 
 returns : tie.Need-returns
-returns c = λ major minor fs i.
+returns c =
+    λ v major minor fs told.
     let a = c .before .before .before .before .args in
-    makes-failed (a .c) (asked major minor Method.Pause (a .id) fs) _ 402 (c .before .not-valid-in-state .ensures) (c .failed .ensures)
-    (pause-idle (view (a .c)) major minor (a .id) fs (ap isIdle (state-is (a .c)) ∙ sym (c .before .before .before .is-idle .ensures) ∙ c .before .before .if1 .taken))
-
-in-state-requires : tie.Need-in-state-requires
-in-state-requires c κs = search needs
+    makes-failed v (asked major minor Method.Pause (a .id) fs) (a .state) (a .q) 402 (c .before .not-valid-in-state .ensures) (c .failed .ensures)
+    (pause-idle (withQueue (a .state) (listOf (a .q)) v) major minor (a .id) fs (sym (c .before .before .before .is-idle .ensures) ∙ c .before .before .if1 .taken))
 
 list-active-requires : tie.Need-list-active-requires
 list-active-requires c κs = search needs
@@ -38,12 +35,12 @@ succeeded-requires : tie.Need-succeeded-requires
 succeeded-requires c κs = search needs
 
 returns-2 : tie.Need-returns-2
-returns-2 c = λ major minor fs i.
-    let a = c .before .before .before .before .before .args in
-    let v = view (a .c) in
-    makes-success (a .c) (asked major minor Method.Pause (a .id) fs) (a .ignored) i Complete _ Paused (v .queue) (c .succeeded .ensures)
-    (active-listed (c .before .list-active .ensures) (c .before .before .in-state .ensures))
-    (pause-busy v major minor (a .id) fs (ap isIdle (state-is (a .c)) ∙ sym (c .before .before .before .before .is-idle .ensures) ∙ c .before .before .before .if1 .left))
+returns-2 c =
+    λ v major minor fs told.
+    let a = c .before .before .before .before .args in
+    let w = withQueue (a .state) (listOf (a .q)) v in
+    makes-success w (asked major minor Method.Pause (a .id) fs) Paused (a .q) told Complete _ (c .succeeded .ensures) (c .before .list-active .ensures) refl
+    (pause-busy w major minor (a .id) fs (sym (c .before .before .before .is-idle .ensures) ∙ c .before .before .if1 .left))
 
 pub pause-spec : {M : Type 1} → statement M
 pause-spec =
@@ -53,7 +50,6 @@ pause-spec =
     not-valid-in-state-requires
     failed-requires
     returns
-    in-state-requires
     list-active-requires
     succeeded-requires
     returns-2)

@@ -1,13 +1,16 @@
 -- `methods::resume` goes by the state. Assumes nothing.
-use mathlib.Core.Path.{_∙_}
+use mathlib.Core.Path.{refl, sym, ap, _∙_}
+use mathlib.Core.List.{[]}
 use Rattle.message.specs.declared.RequestState.the-variants.{Complete}
+use Rattle.synth.specs.Channel.{withQueue}
+use Rattle.synth.specs.States.{succeeded}
 use Rattle.synth.specs.declared.Method.{Method}
 use Rattle.synth.specs.declared.State.the-variants.{Speaking}
-use Rattle.channel.specs.Channel.{view}
-use Rattle.channel.proofs.Views.{state-is}
+use Rattle.queue.specs.Queue.{listOf}
 use Rattle.outcomes.specs.Outcomes.{asked}
+use Rattle.queue.proofs.Queues.{none-listed}
 use Rattle.outcomes.proofs.Making.{makes-failed, makes-success}
-use Rattle.methods.proofs.Methods.{unchanged, none-listed, active-listed, resume-idle, resume-speaking, resume-paused}
+use Rattle.methods.proofs.Methods.{resume-idle, resume-speaking, resume-paused}
 use borrow.Author.Needs.{needs}
 use Rattle.methods.proofs.resume.Statement.{statement}
 use Rattle.methods.proofs.resume.Tie as tie
@@ -33,9 +36,6 @@ succeeded-requires c κs = search needs
 enum-told-3 : tie.Need-enum-told-3
 enum-told-3 c = search needs
 
-in-state-requires : tie.Need-in-state-requires
-in-state-requires c κs = search needs
-
 list-active-requires : tie.Need-list-active-requires
 list-active-requires c κs = search needs
 
@@ -43,27 +43,29 @@ succeeded-requires-2 : tie.Need-succeeded-requires-2
 succeeded-requires-2 c κs = search needs
 
 returns : tie.Need-returns
-returns c = λ major minor fs i.
+returns c =
+    λ v major minor fs told.
     let a = c .before .before .before .before .args in
-    makes-failed (a .c) (asked major minor Method.Resume (a .id) fs) _ 402 (c .before .not-valid-in-state .ensures) (c .failed .ensures)
-    (resume-idle (view (a .c)) major minor (a .id) fs (state-is (a .c) ∙ c .before .before .enum-told .given .1))
+    makes-failed v (asked major minor Method.Resume (a .id) fs) (a .state) (a .q) 402 (c .before .not-valid-in-state .ensures) (c .failed .ensures)
+    (resume-idle (withQueue (a .state) (listOf (a .q)) v) major minor (a .id) fs (c .before .before .enum-told .given .1))
 
 returns-2 : tie.Need-returns-2
-returns-2 c = λ major minor fs i.
+returns-2 c =
+    λ v major minor fs told.
     let a = c .before .before .before .before .args in
-    let v = view (a .c) in
-    let e = state-is (a .c) ∙ c .before .before .enum-told2 .given .1 in
-    makes-success (a .c) (asked major minor Method.Resume (a .id) fs) (a .ignored) i Complete _ Speaking (v .queue) (c .succeeded .ensures)
-    (none-listed (a .c) (c .before .list-none .ensures) (unchanged v Speaking e))
-    (resume-speaking v major minor (a .id) fs e)
+    let w = withQueue (a .state) (listOf (a .q)) v in
+    let e = c .before .before .enum-told2 .given .1 in
+    makes-success w (asked major minor Method.Resume (a .id) fs) (a .state) (a .q) told Complete _ (c .succeeded .ensures)
+    (rw (c .before .list-none .ensures) none-listed) refl
+    (resume-speaking w major minor (a .id) fs e ∙ ap (λ s. succeeded w (asked major minor Method.Resume (a .id) fs) Complete [] s (listOf (a .q))) (sym e))
 
 returns-3 : tie.Need-returns-3
-returns-3 c = λ major minor fs i.
-    let a = c .before .before .before .before .before .args in
-    let v = view (a .c) in
-    makes-success (a .c) (asked major minor Method.Resume (a .id) fs) (a .ignored) i Complete _ Speaking (v .queue) (c .succeeded2 .ensures)
-    (active-listed (c .before .list-active .ensures) (c .before .before .in-state .ensures))
-    (resume-paused v major minor (a .id) fs (state-is (a .c) ∙ c .before .before .before .enum-told3 .given .1))
+returns-3 c =
+    λ v major minor fs told.
+    let a = c .before .before .before .before .args in
+    let w = withQueue (a .state) (listOf (a .q)) v in
+    makes-success w (asked major minor Method.Resume (a .id) fs) Speaking (a .q) told Complete _ (c .succeeded2 .ensures) (c .before .list-active .ensures) refl
+    (resume-paused w major minor (a .id) fs (c .before .before .enum-told3 .given .1))
 
 pub resume-spec : {M : Type 1} → statement M
 resume-spec =
@@ -76,7 +78,6 @@ resume-spec =
     list-none-requires
     succeeded-requires
     enum-told-3
-    in-state-requires
     list-active-requires
     succeeded-requires-2
     returns

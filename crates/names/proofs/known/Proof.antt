@@ -2,7 +2,9 @@
 -- Assumes nothing.
 use mathlib.Core.Path.{sym, ap, _∙_}
 use Rattle.message.specs.Known.{orElse}
-use Rattle.message.specs.declared.Known.the-variants.{ChannelIdentifier, ContentLength, ContentType, ActiveRequestIdList, KillOnBargeIn, ProxySyncId, LoggingTag, Unknown}
+use Rattle.message.specs.declared.Known.the-variants.{ChannelIdentifier, ContentLength, ContentType}
+use Rattle.message.specs.declared.Known.the-variants.{ActiveRequestIdList, KillOnBargeIn, ProxySyncId, LoggingTag}
+use Rattle.message.specs.declared.Known.the-variants.{Unknown}
 use Rattle.names.proofs.Names.{known-by, known-none}
 use borrow.Author.Needs.{needs}
 use Rattle.names.proofs.known.Statement.{statement}
@@ -62,11 +64,8 @@ alike-requires-6 c κs = search needs
 or-unknown-requires-6 : tie.Need-or-unknown-requires-6
 or-unknown-requires-6 c κs = search needs
 
-slice-aggregate-alike-7 : tie.Need-slice-aggregate-alike-7
-slice-aggregate-alike-7 c = search needs
-
-alike-requires-7 : tie.Need-alike-requires-7
-alike-requires-7 c κs = search needs
+is-active-request-id-list-requires : tie.Need-is-active-request-id-list-requires
+is-active-request-id-list-requires c κs = search needs
 
 or-unknown-requires-7 : tie.Need-or-unknown-requires-7
 or-unknown-requires-7 c κs = search needs
@@ -74,42 +73,51 @@ or-unknown-requires-7 c κs = search needs
 returns : tie.Need-returns
 returns c =
     let n = c .before .before .before .before .before .args .n .now in
-    c .or-unknown .ensures ∙ ap (λ b. orElse b LoggingTag Unknown) (c .before .alike .ensures) ∙ sym (known-by n LoggingTag (search needs))
+    c .or-unknown .ensures ∙ ap (λ b. orElse b LoggingTag Unknown) (c .before .alike .ensures)
+    ∙ sym (known-by n LoggingTag (search needs))
 
 returns-2 : tie.Need-returns-2
 returns-2 c =
     let n = c .before .before .before .before .before .args .n .now in
-    c .or-unknown2 .ensures ∙ ap (λ b. orElse b ContentType Unknown) (c .before .alike2 .ensures) ∙ sym (known-by n ContentType (search needs))
+    c .or-unknown2 .ensures ∙ ap (λ b. orElse b ContentType Unknown) (c .before .alike2 .ensures)
+    ∙ sym (known-by n ContentType (search needs))
 
 returns-3 : tie.Need-returns-3
 returns-3 c =
     let n = c .before .before .before .before .before .args .n .now in
-    c .or-unknown3 .ensures ∙ ap (λ b. orElse b ProxySyncId Unknown) (c .before .alike3 .ensures) ∙ sym (known-by n ProxySyncId (search needs))
+    c .or-unknown3 .ensures ∙ ap (λ b. orElse b ProxySyncId Unknown) (c .before .alike3 .ensures)
+    ∙ sym (known-by n ProxySyncId (search needs))
 
 returns-4 : tie.Need-returns-4
 returns-4 c =
     let n = c .before .before .before .before .before .args .n .now in
-    c .or-unknown4 .ensures ∙ ap (λ b. orElse b ContentLength Unknown) (c .before .alike4 .ensures) ∙ sym (known-by n ContentLength (search needs))
+    c .or-unknown4 .ensures ∙ ap (λ b. orElse b ContentLength Unknown) (c .before .alike4 .ensures)
+    ∙ sym (known-by n ContentLength (search needs))
 
 returns-5 : tie.Need-returns-5
 returns-5 c =
     let n = c .before .before .before .before .before .args .n .now in
-    c .or-unknown5 .ensures ∙ ap (λ b. orElse b KillOnBargeIn Unknown) (c .before .alike5 .ensures) ∙ sym (known-by n KillOnBargeIn (search needs))
+    c .or-unknown5 .ensures ∙ ap (λ b. orElse b KillOnBargeIn Unknown) (c .before .alike5 .ensures)
+    ∙ sym (known-by n KillOnBargeIn (search needs))
 
 returns-6 : tie.Need-returns-6
 returns-6 c =
     let n = c .before .before .before .before .before .args .n .now in
-    c .or-unknown6 .ensures ∙ ap (λ b. orElse b ChannelIdentifier Unknown) (c .before .alike6 .ensures) ∙ sym (known-by n ChannelIdentifier (search needs))
+    c .or-unknown6 .ensures ∙ ap (λ b. orElse b ChannelIdentifier Unknown) (c .before .alike6 .ensures)
+    ∙ sym (known-by n ChannelIdentifier (search needs))
 
 returns-7 : tie.Need-returns-7
 returns-7 c =
-    let n = c .before .before .before .before .before .args .n .now in
-    c .or-unknown7 .ensures ∙ ap (λ b. orElse b ActiveRequestIdList Unknown) (c .before .alike7 .ensures) ∙ sym (known-by n ActiveRequestIdList (search needs))
+    let n = c .before .before .before .before .args .n .now in
+    c .or-unknown7 .ensures
+    ∙ ap (λ b. orElse b ActiveRequestIdList Unknown) (c .before .is-active-request-id-list .ensures)
+    ∙ sym (known-by n ActiveRequestIdList (search needs))
 
 returns-8 : tie.Need-returns-8
 returns-8 c =
     let r = c .match .rest in
-    sym (known-none (c .before .before .args .n .now) (r .0 .0 .0 .0 .0 .0 .1) (r .0 .0 .0 .0 .0 .1) (r .0 .0 .0 .0 .1) (r .0 .0 .0 .1) (r .0 .0 .1) (r .0 .1) (r .1))
+    sym (known-none (c .before .before .args .n .now) (r .0 .0 .0 .0 .0 .0 .1) (r .0 .0 .0 .0 .0 .1) (r .0 .0 .0 .0 .1)
+    (r .0 .0 .0 .1) (r .0 .0 .1) (r .0 .1) (r .1))
 
 pub known-spec : {M : Type 1} → statement M
 known-spec =
@@ -133,8 +141,7 @@ known-spec =
     slice-aggregate-alike-6
     alike-requires-6
     or-unknown-requires-6
-    slice-aggregate-alike-7
-    alike-requires-7
+    is-active-request-id-list-requires
     or-unknown-requires-7
     returns
     returns-2

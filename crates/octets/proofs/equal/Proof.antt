@@ -1,12 +1,12 @@
--- `octets::equal` compares two lists. The loop's invariant: they are of one length, and what is left of them decides.
--- The measure is what is left of the first. Assumes nothing.
-use Prim.Native.Nat.{_-_, _≤_}
+-- `octets::equal` meets its contract. The loop's invariant: the texts are of one length, and what is left of them
+-- decides. Assumes nothing.
 use mathlib.Core.Path.{_≡_, refl, sym, _∙_}
+use Prim.Native.Nat.{_-_, _≤_}
 use native.Mathlib.Omega.{arith}
 use lib.ListN.{length, drop}
 use Rattle.lists.specs.Lists.{same}
-use Rattle.octets.proofs.Texts.{same-lengths, same-end, same-stop, same-step}
-use borrow.Author.Needs.{needs}
+use Rattle.octets.proofs.Texts.{same-lengths}
+use Rattle.octets.proofs.Packed.{packed-stop, packed-step}
 use Rattle.octets.proofs.equal.Statement.{statement}
 use Rattle.octets.proofs.equal.Tie as tie
 
@@ -17,41 +17,54 @@ abbrev μ-loop : tie.MeasureT-loop
 μ-loop a b i₀ i = length a - i
 
 returns : tie.Need-returns Inv-loop μ-loop
-returns c = let args = c .before .args in sym (same-lengths (args .a .now) (args .b .now) (c .if1 .taken))
+returns c = let a = c .before .before .before .args in sym (same-lengths (a .a .now) (a .b .now) (c .if1 .taken))
 
 loop-holds : tie.Need-loop-holds Inv-loop μ-loop
 loop-holds c = (omega arith, c .if1 .left, refl)
 
-shared-slice-read-if2 : tie.Need-shared-slice-read-if2 Inv-loop μ-loop
-shared-slice-read-if2 c = search needs
+sub-loop : tie.Need-sub-loop Inv-loop μ-loop
+sub-loop c = omega arith
 
-shared-slice-read-if2-2 : tie.Need-shared-slice-read-if2-2 Inv-loop μ-loop
-shared-slice-read-if2-2 c = search needs
+word-requires : tie.Need-word-requires Inv-loop μ-loop
+word-requires c κs = omega arith
+
+word-requires-2 : tie.Need-word-requires-2 Inv-loop μ-loop
+word-requires-2 c κs = omega arith
 
 returns-2 : tie.Need-returns-2 Inv-loop μ-loop
 returns-2 c =
-    let at = c .before .before .before .before in
-    let args = at .before .before .args in
-    sym (at .loop .inv .2 ∙ same-stop (args .a .now) (args .b .now) (at .loop .i) (omega arith) (omega arith) (c .if2 .taken))
+    let a = c .before .before .before .before .before .before .before .before .args in
+    let l = c .before .before .before .before .loop in
+    sym (l .inv .2 ∙ packed-stop (a .a .now) (a .b .now) 8 (l .i)
+    (λ e. c .if2 .taken (c .before .before .word .ensures ∙ e ∙ sym (c .before .word2 .ensures))))
 
 add-i : tie.Need-add-i Inv-loop μ-loop
-add-i c = search needs
+add-i c = omega arith
 
 loop-less : tie.Need-loop-less Inv-loop μ-loop
-loop-less c = search needs
+loop-less c = omega arith
 
 loop-again : tie.Need-loop-again Inv-loop μ-loop
 loop-again c =
-    let at = c .before .before .before .before in
-    let args = at .before .before .args in
-    let inv = at .loop .inv in
-    (omega arith, inv .1, inv .2 ∙ same-step (args .a .now) (args .b .now) (at .loop .i) (omega arith) (omega arith) (c .if2 .left))
+    let a = c .before .before .before .before .before .before .before .before .args in
+    let l = c .before .before .before .before .loop in
+    let e = sym (c .before .before .word .ensures) ∙ c .if2 .left ∙ c .before .word2 .ensures in (
+      omega arith,
+      l .inv .1,
+      l .inv .2
+          ∙ packed-step (a .a .now) (a .b .now)
+          (λ i. omega (arith, c .before .before .before .before .before .before .before .shared-slice-known .given i))
+          (λ i. omega (arith, c .before .before .before .before .before .before .shared-slice-known2 .given i)) 8 (l .i)
+          (omega arith) (omega arith) e,
+    )
+
+equal-by-four-requires : tie.Need-equal-by-four-requires Inv-loop μ-loop
+equal-by-four-requires c κs = let l = c .before .loop in (l .inv .1, l .inv .0)
 
 returns-3 : tie.Need-returns-3 Inv-loop μ-loop
 returns-3 c =
-    let at = c .before in
-    let args = at .before .before .args in
-    sym (at .loop .inv .2 ∙ same-end (args .a .now) (args .b .now) (at .loop .i) (omega arith) (omega arith))
+    let l = c .before .before .loop in
+    c .equal-by-four .ensures ∙ sym (l .inv .2)
 
 pub equal-spec : {M : Type 1} → statement M
 equal-spec =
@@ -61,10 +74,12 @@ equal-spec =
     μ-loop
     returns
     loop-holds
-    shared-slice-read-if2
-    shared-slice-read-if2-2
+    sub-loop
+    word-requires
+    word-requires-2
     returns-2
     add-i
     loop-less
     loop-again
+    equal-by-four-requires
     returns-3)

@@ -3,8 +3,6 @@ use borrow.Author.Needs.{needs}
 use Rattle.octets.proofs.Classes.{digit-not, digit-by}
 use Rattle.octets.proofs.is_digit.Statement.{statement}
 use Rattle.octets.proofs.is_digit.Tie as tie
-use Rattle.octets.proofs.is_digit.Reads as reads
-use Rattle.octets.proofs.is_digit.Lts as lts
 
 returns : tie.Need-returns
 returns c = digit-not (c .before .args .b) (search needs)

@@ -3,8 +3,6 @@ use borrow.Author.Needs.{needs}
 use Rattle.octets.proofs.Classes.{lowered-below, lowered-above, lowered-capital}
 use Rattle.octets.proofs.lowered.Statement.{statement}
 use Rattle.octets.proofs.lowered.Tie as tie
-use Rattle.octets.proofs.lowered.Reads as reads
-use Rattle.octets.proofs.lowered.Lts as lts
 
 returns : tie.Need-returns
 returns c = lowered-below (c .before .args .b) (search needs)

@@ -1,6 +1,5 @@
 -- `outcomes::succeeded` puts the status and the list together. Assumes nothing.
-use mathlib.Core.Path.{refl}
-use Rattle.outcomes.proofs.Making.{outcome-is, succeeds}
+use Rattle.outcomes.proofs.Making.{answer-is}
 use borrow.Author.Needs.{needs}
 use Rattle.outcomes.proofs.succeeded.Statement.{statement}
 use Rattle.outcomes.proofs.succeeded.Tie as tie
@@ -12,7 +11,14 @@ complete-requires : tie.Need-complete-requires
 complete-requires c κs = search needs
 
 returns : tie.Need-returns
-returns c = outcome-is (succeeds _ _ _ _ _ (c .complete .ensures) (c .before .success .ensures)) refl
+returns c =
+    let a = c .before .before .args in
+    λ i. record {
+      answer = answer-is (c .complete .ensures) (c .before .success .ensures) i;
+      listed = a .listed;
+      state = a .state;
+      queue = a .queue;
+    }
 
 pub succeeded-spec : {M : Type 1} → statement M
 succeeded-spec = tie.close (tie.spec success-requires complete-requires returns)

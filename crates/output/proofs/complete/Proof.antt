@@ -4,7 +4,6 @@ use native.Mathlib.Omega.{arith}
 use borrow.Author.Needs.{needs}
 use Rattle.answer.specs.Written.{written}
 use Rattle.answer.specs.Answers.{speakComplete}
-use Rattle.answer.specs.Causes.{causeNumber}
 use Rattle.output.proofs.Delivered.{fits, refused}
 use Rattle.output.proofs.complete.Statement.{statement}
 use Rattle.output.proofs.complete.Tie as tie
@@ -18,7 +17,7 @@ same-length c = refl
 returns : tie.Need-returns
 returns c =
     let a = c .before .before .before .before .before .args in
-    refused (written (speakComplete (a .name .now) (a .id) (causeNumber (a .cause)))) (a .out .now) (omega arith)
+    refused (written (speakComplete (a .name .now) (a .id) (a .cause))) (a .out .now) (omega arith)
 
 put-complete-requires : tie.Need-put-complete-requires
 put-complete-requires c κs = omega arith

@@ -2,33 +2,42 @@
 use mathlib.Core.Path.{refl}
 use native.Mathlib.Omega.{arith}
 use Rattle.writers.proofs.Put.{_▸_, kept}
-use Rattle.answer.specs.Causes.{causeNumber}
 use Rattle.output.proofs.Pieces.{complete-room, complete-pieces}
 use Rattle.output.proofs.put_complete.Statement.{statement}
 use Rattle.output.proofs.put_complete.Tie as tie
 
 put-opening-requires : tie.Need-put-opening-requires
-put-opening-requires c κs = let s = c .before .before .before in omega (arith, complete-room (s .args .name .now) (s .args .id) (causeNumber (s .args .cause)) (s .pre .0))
+put-opening-requires c κs =
+    let s = c .before .before .before in
+    omega (arith, complete-room (s .args .name .now) (s .args .id) (s .args .cause) (s .pre .0))
 
 put-event-line-requires : tie.Need-put-event-line-requires
-put-event-line-requires c κs = let s = c .before .before .before .before .before .before .before in omega (arith, complete-room (s .args .name .now) (s .args .id) (causeNumber (s .args .cause)) (s .pre .0))
+put-event-line-requires c κs =
+    let s = c .before .before .before .before .before .before .before in
+    omega (arith, complete-room (s .args .name .now) (s .args .id) (s .args .cause) (s .pre .0))
 
 put-channel-identifier-requires : tie.Need-put-channel-identifier-requires
-put-channel-identifier-requires c κs = let s = c .before .before .before .before .before .before .before .before .before .before .before in omega (arith, complete-room (s .args .name .now) (s .args .id) (causeNumber (s .args .cause)) (s .pre .0))
+put-channel-identifier-requires c κs =
+    let s = c .before .before .before .before .before .before .before .before .before .before .before in
+    omega (arith, complete-room (s .args .name .now) (s .args .id) (s .args .cause) (s .pre .0))
 
 put-completion-cause-requires : tie.Need-put-completion-cause-requires
-put-completion-cause-requires c κs = let s = c .before .before .before .before .before .before .before .before .before .before .before .before .before .before .before in omega (arith, complete-room (s .args .name .now) (s .args .id) (causeNumber (s .args .cause)) (s .pre .0))
+put-completion-cause-requires c κs =
+    let s = c .before .before .before .before .before .before .before .before .before .before .before .before .before .before .before in
+    omega (arith, complete-room (s .args .name .now) (s .args .id) (s .args .cause) (s .pre .0))
 
 slice-aggregate-put-bytes : tie.Need-slice-aggregate-put-bytes
 slice-aggregate-put-bytes c = refl
 
 put-bytes-requires : tie.Need-put-bytes-requires
-put-bytes-requires c κs = let s = c .before .before .before .before .before .before .before .before .before .before .before .before .before .before .before .before .before .before .before .before in omega (arith, complete-room (s .args .name .now) (s .args .id) (causeNumber (s .args .cause)) (s .pre .0))
+put-bytes-requires c κs =
+    let s = c .before .before .before .before .before .before .before .before .before .before .before .before .before .before .before .before .before .before .before .before in
+    omega (arith, complete-room (s .args .name .now) (s .args .id) (s .args .cause) (s .pre .0))
 
 returns : tie.Need-returns
 returns c =
     let s = c .before .before .before .before .before .before .before .before .before .before .before .before .before .before .before .before .before .before .before .before .before .before .before in
-    rw (← complete-pieces (s .args .name .now) (s .args .id) (causeNumber (s .args .cause)) (s .args .size) (s .pre .0))
+    rw (← complete-pieces (s .args .name .now) (s .args .id) (s .args .cause) (s .args .size) (s .pre .0))
     (c .before .before .before .before .before .before .before .before .before .before .before .before .before .before .before .before .before .before .before .put-opening .ensures
     ▸ c .before .before .before .before .before .before .before .before .before .before .before .before .before .before .before .put-event-line .ensures
     ▸ c .before .before .before .before .before .before .before .before .before .before .before .put-channel-identifier .ensures

@@ -1,37 +1,92 @@
--- `queue::list_held` lists the id of every entry that is counted. Assumes nothing.
-use mathlib.Core.Path.{refl, sym, _∙_}
+-- `queue::list_held` lists the id of every entry that is counted. The loop's invariant: the first i are those of the first i
+-- entries. The measure is what is left of the count. Assumes nothing.
+use Prim.Native.Nat.{_-_, _≤_}
+use mathlib.Core.Path.{_≡_, refl, sym, _∙_}
 use native.Mathlib.Omega.{arith}
-use lib.ListN.{length-map}
-use Rattle.channel.specs.Channel.{view}
-use Rattle.channel.proofs.Views.{count-is, queue-within}
+use lib.ListN.{length, take, length-map}
+use Rattle.synth.specs.Channel.{ids as idsOf}
+use Rattle.queue.specs.Queue.{listOf}
+use Rattle.queue.proofs.Queues.{count-is, entries-16, within}
+use Rattle.queue.proofs.Turns.{ids-more}
 use borrow.Author.Needs.{needs}
 use Rattle.queue.proofs.list_held.Statement.{statement}
 use Rattle.queue.proofs.list_held.Tie as tie
 
-list-none-requires : tie.Need-list-none-requires
+abbrev Inv-loop : tie.InvT-loop
+Inv-loop count entries ids₀ i₀ ids i = (i ≤ count) × (count ≤ 16) × (length ids ≡ 16) × (length entries ≡ 16) × (take i ids ≡ idsOf (take i entries))
+
+abbrev μ-loop : tie.MeasureT-loop
+μ-loop count entries ids₀ i₀ ids i = count - i
+
+list-none-requires : tie.Need-list-none-requires Inv-loop μ-loop
 list-none-requires c κs = search needs
 
-returns : tie.Need-returns
+returns : tie.Need-returns Inv-loop μ-loop
 returns c =
     let at = c .before .before in
-    (λ few. absurd (omega (arith, few, count-is (at .args .c) _ (at .good .0), c .before .if1 .taken)), λ many. c .list-none .ensures)
+    (λ few. absurd (omega (arith, few, count-is (at .args .q) _ (at .good .0), c .before .if1 .taken)), λ many. c .list-none .ensures)
 
-ids-of-requires : tie.Need-ids-of-requires
-ids-of-requires c κs = search needs
+loop-holds : tie.Need-loop-holds Inv-loop μ-loop
+loop-holds c = (omega arith, c .before .if1 .left, refl, entries-16 (c .before .before .args .q) _ (c .before .before .good .0), refl)
 
-returns-2 : tie.Need-returns-2
+mul-e : tie.Need-mul-e Inv-loop μ-loop
+mul-e c = search needs
+
+array-copy-out-e : tie.Need-array-copy-out-e Inv-loop μ-loop
+array-copy-out-e c = search needs
+
+mul-ids : tie.Need-mul-ids Inv-loop μ-loop
+mul-ids c = search needs
+
+array-write-ids : tie.Need-array-write-ids Inv-loop μ-loop
+array-write-ids c = search needs
+
+add-i : tie.Need-add-i Inv-loop μ-loop
+add-i c = search needs
+
+loop-less : tie.Need-loop-less Inv-loop μ-loop
+loop-less c = search needs
+
+loop-again : tie.Need-loop-again Inv-loop μ-loop
+loop-again c =
+    let at = c .before .before in
+    let inv = at .loop .inv in (
+      omega arith,
+      inv .1,
+      search needs,
+      inv .3,
+      ids-more (at .before .before .before .args .q .entries) (at .loop .ids) (at .loop .i) (omega arith) (omega arith) (inv .4),
+    )
+
+returns-2 : tie.Need-returns-2 Inv-loop μ-loop
 returns-2 c =
-    let at = c .before .before .before in
-    let ch = at .args .c in
-    let left = c .before .before .if1 .left in (
+    let at = c .before in
+    let start = at .before .before .before in
+    let q = start .args .q in
+    let left = at .before .before .if1 .left in
+    let e : at .loop .i ≡ q .count = omega arith in (
       λ few. record {
-        shown = rw (queue-within ch left) (c .ids-of .ensures);
-        counted = sym (length-map (view ch .queue) _ ∙ count-is ch _ (at .good .0));
+        shown = rw (e, ← within q left) at (at .loop .inv .4);
+        counted = sym (length-map (listOf q) _ ∙ count-is q _ (start .good .0));
         few = left;
-        left = refl;
       },
-      λ many. absurd (omega (arith, many, left, count-is ch _ (at .good .0))),
+      λ many. absurd (omega (arith, many, left, count-is q _ (start .good .0))),
     )
 
 pub list-held-spec : {M : Type 1} → statement M
-list-held-spec = tie.close (tie.spec list-none-requires returns ids-of-requires returns-2)
+list-held-spec =
+    tie.close
+    (tie.spec
+    Inv-loop
+    μ-loop
+    list-none-requires
+    returns
+    loop-holds
+    mul-e
+    array-copy-out-e
+    mul-ids
+    array-write-ids
+    add-i
+    loop-less
+    loop-again
+    returns-2)

@@ -1,83 +1,23 @@
--- `sizes::cause_width` meets its contract: each arm is told which cause it has. Assumes nothing.
-use mathlib.Core.Path.{refl}
-use lib.Dec.{lit≤}
-use Rattle.writers.specs.Decimal.{threeDigits}
+-- `sizes::cause_width` meets its contract. Assumes nothing.
+use native.Mathlib.Omega.{arith}
+use borrow.Author.Needs.{needs}
+use Rattle.answer.proofs.Causes.{name-within, name-length, cause-length}
 use Rattle.sizes.proofs.cause_width.Statement.{statement}
 use Rattle.sizes.proofs.cause_width.Tie as tie
 
-enum-told : tie.Need-enum-told
-enum-told c = c .match .keys1
+cause-place-requires : tie.Need-cause-place-requires
+cause-place-requires c κs = search needs
 
-enum-told-2 : tie.Need-enum-told-2
-enum-told-2 c = c .match .keys2
-
-enum-told-3 : tie.Need-enum-told-3
-enum-told-3 c = c .match .keys3
-
-enum-told-4 : tie.Need-enum-told-4
-enum-told-4 c = c .match .keys4
-
-enum-told-5 : tie.Need-enum-told-5
-enum-told-5 c = c .match .keys5
-
-enum-told-6 : tie.Need-enum-told-6
-enum-told-6 c = c .match .keys6
-
-enum-told-7 : tie.Need-enum-told-7
-enum-told-7 c = c .match .keys7
-
-enum-told-8 : tie.Need-enum-told-8
-enum-told-8 c = c .match .keys8
+add-result : tie.Need-add-result
+add-result c =
+    let here = c .before .before .args .cause in
+    record { fits = omega (arith, name-within here (c .before .cause-place .ensures)) }
 
 returns : tie.Need-returns
-unfolding threeDigits
-returns c = rw (c .enum-told .given .1) (refl, lit≤ tt)
-
-returns-2 : tie.Need-returns-2
-unfolding threeDigits
-returns-2 c = rw (c .enum-told2 .given .1) (refl, lit≤ tt)
-
-returns-3 : tie.Need-returns-3
-unfolding threeDigits
-returns-3 c = rw (c .enum-told3 .given .1) (refl, lit≤ tt)
-
-returns-4 : tie.Need-returns-4
-unfolding threeDigits
-returns-4 c = rw (c .enum-told4 .given .1) (refl, lit≤ tt)
-
-returns-5 : tie.Need-returns-5
-unfolding threeDigits
-returns-5 c = rw (c .enum-told5 .given .1) (refl, lit≤ tt)
-
-returns-6 : tie.Need-returns-6
-unfolding threeDigits
-returns-6 c = rw (c .enum-told6 .given .1) (refl, lit≤ tt)
-
-returns-7 : tie.Need-returns-7
-unfolding threeDigits
-returns-7 c = rw (c .enum-told7 .given .1) (refl, lit≤ tt)
-
-returns-8 : tie.Need-returns-8
-unfolding threeDigits
-returns-8 c = rw (c .enum-told8 .given .1) (refl, lit≤ tt)
+returns c =
+    let n = c .before .before .args .cause in
+    let placed = c .before .cause-place .ensures in
+    (omega (arith, name-length n placed, cause-length n), omega (arith, name-within n placed))
 
 pub cause-width-spec : {M : Type 1} → statement M
-cause-width-spec =
-    tie.close
-    (tie.spec
-    enum-told
-    enum-told-2
-    enum-told-3
-    enum-told-4
-    enum-told-5
-    enum-told-6
-    enum-told-7
-    enum-told-8
-    returns
-    returns-2
-    returns-3
-    returns-4
-    returns-5
-    returns-6
-    returns-7
-    returns-8)
+cause-width-spec = tie.close (tie.spec cause-place-requires add-result returns)

@@ -1,6 +1,5 @@
 -- `sizes::complete_size` meets its contract. Assumes nothing.
 use native.Mathlib.Omega.{arith}
-use Rattle.answer.specs.Causes.{causeNumber}
 use Rattle.sizes.proofs.Messages.{complete-measured}
 use Rattle.sizes.proofs.complete_size.Statement.{statement}
 use Rattle.sizes.proofs.complete_size.Tie as tie
@@ -27,7 +26,7 @@ returns : tie.Need-returns
 returns c =
     let a = c .before .before .before .before .before .args in
     rw (
-      complete-measured (a .name .now) (a .id) (causeNumber (a .cause)),
+      complete-measured (a .name .now) (a .id) (a .cause),
       ← c .before .before .width .ensures .0,
       ← c .before .cause-width .ensures .0,
     )

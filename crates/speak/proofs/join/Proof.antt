@@ -1,21 +1,30 @@
 -- `speak::join` goes by the room and the state. Assumes nothing.
-use mathlib.Core.Path.{_≡_, sym, _∙_}
+use Prim.Native.Nat.{_<_}
+use mathlib.Core.Path.{_≡_, sym, ap, _∙_}
 use mathlib.Core.Bool.{false}
+use mathlib.Core.List.{List, [], _∷_, _++_}
 use lib.Dec.{leb}
 use lib.ListN.{length}
+use borrow.Author.Tests.{leb-false}
 use Rattle.message.specs.declared.RequestState.the-variants.{Pending, InProgress}
-use Rattle.synth.specs.States.{joined}
-use Rattle.synth.specs.declared.State.the-variants.{Speaking, Paused}
+use Rattle.synth.specs.Channel.{withQueue}
+use Rattle.synth.specs.declared.Entry.{Entry}
+use Rattle.synth.specs.declared.State.the-variants.{Speaking}
 use Rattle.synth.specs.declared.Method.{Method}
-use Rattle.channel.specs.Channel.{view}
-use Rattle.queue.specs.Queue.{listsNone}
-use Rattle.channel.proofs.Views.{state-is}
+use Rattle.queue.specs.Queue.{listOf, noIds}
+use Rattle.queue.specs.declared.Queue.{Queue}
+use Rattle.queue.proofs.Queues.{none-listed}
 use Rattle.outcomes.specs.Outcomes.{asked}
-use Rattle.outcomes.proofs.Making.{outcome-is, succeeds, none-lists, makes-failed, makes-success}
-use Rattle.speak.proofs.Speaking.{waiting, joined-by, speak-full, speak-idle, speak-speaking, speak-paused}
+use Rattle.outcomes.proofs.Making.{answer-is, makes-failed, makes-success}
+use Rattle.speak.proofs.Speaking.{speak-full, speak-idle, speak-busy}
 use borrow.Author.Needs.{needs}
 use Rattle.speak.proofs.join.Statement.{statement}
 use Rattle.speak.proofs.join.Tie as tie
+
+-- the queue with the entry behind it
+with-entry : (q : Queue) {e f : Entry} {l : List Entry} → leb 16 (length (listOf q)) ≡ false → (length (listOf q) < 16 → l ≡ listOf q ++ (e ∷ [])) → e ≡ f
+    → l ≡ listOf q ++ (f ∷ [])
+with-entry q few joined e = joined (leb-false 16 (length (listOf q)) few) ∙ ap (λ (x : Entry). listOf q ++ (x ∷ [])) e
 
 is-full-requires : tie.Need-is-full-requires
 is-full-requires c κs = search needs
@@ -27,73 +36,53 @@ failed-requires : tie.Need-failed-requires
 failed-requires c κs = search needs
 
 returns : tie.Need-returns
-returns c = λ major minor fs i k.
+returns c =
+    λ v major minor fs told.
     let a = c .before .before .before .before .args in
-    makes-failed (a .c) (asked major minor Method.Speak (a .id) fs) _ 407 (c .before .operation-failed .ensures) (c .failed .ensures)
-    (speak-full (view (a .c)) major minor (a .id) fs (sym (c .before .before .before .is-full .ensures) ∙ c .before .before .if1 .taken))
+    makes-failed v (asked major minor Method.Speak (a .e .id) fs) (a .state) (a .q) 407 (c .before .operation-failed .ensures) (c .failed .ensures)
+    (speak-full (withQueue (a .state) (listOf (a .q)) v) major minor (a .e .id) fs (sym (c .before .before .before .is-full .ensures) ∙ c .before .before .if1 .taken))
 
 success-requires : tie.Need-success-requires
 success-requires c κs = search needs
 
-enum-told : tie.Need-enum-told
-enum-told c = search needs
-
 join-requires : tie.Need-join-requires
 join-requires c κs = search needs
-
-in-progress-requires : tie.Need-in-progress-requires
-in-progress-requires c κs = search needs
 
 list-none-requires : tie.Need-list-none-requires
 list-none-requires c κs = search needs
 
-enum-told-2 : tie.Need-enum-told-2
-enum-told-2 c = search needs
+is-idle-requires : tie.Need-is-idle-requires
+is-idle-requires c κs = search needs
 
-join-requires-2 : tie.Need-join-requires-2
-join-requires-2 c κs = search needs
-
-wait-requires : tie.Need-wait-requires
-wait-requires c κs = search needs
-
-enum-told-3 : tie.Need-enum-told-3
-enum-told-3 c = search needs
-
-join-requires-3 : tie.Need-join-requires-3
-join-requires-3 c κs = search needs
-
-wait-requires-2 : tie.Need-wait-requires-2
-wait-requires-2 c κs = search needs
+in-progress-requires : tie.Need-in-progress-requires
+in-progress-requires c κs = search needs
 
 returns-2 : tie.Need-returns-2
-returns-2 c = λ major minor fs i k.
+returns-2 c =
+    λ v major minor fs told.
     let a = c .before .before .before .before .before .before .before .before .args in
-    let r = asked major minor Method.Speak (a .id) fs in
-    let few : leb 16 (length (view (a .c) .queue)) ≡ false = sym (c .before .before .before .before .before .before .before .is-full .ensures) ∙ c .before .before .before .before .before .before .if1 .left in
-    makes-success (a .c) r (a .ignored) i InProgress (listsNone (c .before .before .join .result)) Speaking (joined (view (a .c)) r)
-    (outcome-is (succeeds _ _ _ _ _ (c .before .in-progress .ensures) (c .before .before .before .before .before .success .ensures)) (c .list-none .ensures))
-    (none-lists (c .before .before .join .result) _ (joined-by (view (a .c)) r Speaking few (c .before .before .join .ensures .0) k))
-    (speak-idle (view (a .c)) major minor (a .id) fs few (state-is (a .c) ∙ c .before .before .before .enum-told .given .1))
+    let w = withQueue (a .state) (listOf (a .q)) v in
+    let few = sym (c .before .before .before .before .before .before .before .is-full .ensures) ∙ c .before .before .before .before .before .before .if1 .left in
+    let answered = answer-is (c .in-progress .ensures) (c .before .before .before .before .before .success .ensures) in
+    makes-success w (asked major minor Method.Speak (a .e .id) fs) Speaking (c .before .before .before .before .join .result) (told .0) InProgress noIds
+    (λ i. record { answer = answered i; listed = c .before .before .before .list-none .ensures i; state = Speaking; queue = c .before .before .before .before .join .result })
+    none-listed (with-entry (a .q) few (c .before .before .before .before .join .ensures .0) (told .1))
+    (speak-idle w major minor (a .e .id) fs few (sym (c .before .before .is-idle .ensures) ∙ c .before .if2 .taken))
+
+pending-requires : tie.Need-pending-requires
+pending-requires c κs = search needs
 
 returns-3 : tie.Need-returns-3
-returns-3 c = λ major minor fs i k.
-    let a = c .before .before .before .before .before .before .before .args in
-    let r = asked major minor Method.Speak (a .id) fs in
-    let few : leb 16 (length (view (a .c) .queue)) ≡ false = sym (c .before .before .before .before .before .before .is-full .ensures) ∙ c .before .before .before .before .before .if1 .left in
-    makes-success (a .c) r (a .ignored) i Pending (listsNone (c .before .join2 .result)) Speaking (joined (view (a .c)) r)
-    (waiting (c .wait .ensures) (c .before .before .before .before .success .ensures))
-    (none-lists (c .before .join2 .result) _ (joined-by (view (a .c)) r Speaking few (c .before .join2 .ensures .0) k))
-    (speak-speaking (view (a .c)) major minor (a .id) fs few (state-is (a .c) ∙ c .before .before .enum-told2 .given .1))
-
-returns-4 : tie.Need-returns-4
-returns-4 c = λ major minor fs i k.
-    let a = c .before .before .before .before .before .before .before .args in
-    let r = asked major minor Method.Speak (a .id) fs in
-    let few : leb 16 (length (view (a .c) .queue)) ≡ false = sym (c .before .before .before .before .before .before .is-full .ensures) ∙ c .before .before .before .before .before .if1 .left in
-    makes-success (a .c) r (a .ignored) i Pending (listsNone (c .before .join3 .result)) Paused (joined (view (a .c)) r)
-    (waiting (c .wait2 .ensures) (c .before .before .before .before .success .ensures))
-    (none-lists (c .before .join3 .result) _ (joined-by (view (a .c)) r Paused few (c .before .join3 .ensures .0) k))
-    (speak-paused (view (a .c)) major minor (a .id) fs few (state-is (a .c) ∙ c .before .before .enum-told3 .given .1))
+returns-3 c =
+    λ v major minor fs told.
+    let a = c .before .before .before .before .before .before .before .before .args in
+    let w = withQueue (a .state) (listOf (a .q)) v in
+    let few = sym (c .before .before .before .before .before .before .before .is-full .ensures) ∙ c .before .before .before .before .before .before .if1 .left in
+    let answered = answer-is (c .pending .ensures) (c .before .before .before .before .before .success .ensures) in
+    makes-success w (asked major minor Method.Speak (a .e .id) fs) (a .state) (c .before .before .before .before .join .result) (told .0) Pending noIds
+    (λ i. record { answer = answered i; listed = c .before .before .before .list-none .ensures i; state = a .state; queue = c .before .before .before .before .join .result })
+    none-listed (with-entry (a .q) few (c .before .before .before .before .join .ensures .0) (told .1))
+    (speak-busy w major minor (a .e .id) fs few (sym (c .before .before .is-idle .ensures) ∙ c .before .if2 .left))
 
 pub join-spec : {M : Type 1} → statement M
 join-spec =
@@ -104,16 +93,10 @@ join-spec =
     failed-requires
     returns
     success-requires
-    enum-told
     join-requires
-    in-progress-requires
     list-none-requires
-    enum-told-2
-    join-requires-2
-    wait-requires
-    enum-told-3
-    join-requires-3
-    wait-requires-2
+    is-idle-requires
+    in-progress-requires
     returns-2
-    returns-3
-    returns-4)
+    pending-requires
+    returns-3)

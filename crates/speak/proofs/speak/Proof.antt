@@ -1,27 +1,56 @@
 -- `speak::speak` goes by what Kill-On-Barge-In says. Assumes nothing.
-use mathlib.Core.Path.{sym, subst, _∙_}
+use Prim.Native.Nat.{ℕ}
+use mathlib.Core.Path.{_≡_, sym, ap, subst, _∙_}
+use mathlib.Core.List.{List}
+use Rattle.message.specs.Message.{Fields}
 use Rattle.message.specs.declared.Known.the-variants.{KillOnBargeIn}
-use Rattle.synth.specs.Request.{acting}
+use Rattle.synth.specs.Channel.{View, withQueue}
+use Rattle.synth.specs.Request.{acting, ignoresAny}
 use Rattle.synth.specs.declared.Method.{Method}
-use Rattle.channel.specs.Channel.{view}
+use Rattle.queue.specs.Queue.{listOf}
+use Rattle.values.specs.Values.{givenOf, killOf}
+use Rattle.request.specs.Telling.{Tells}
 use Rattle.outcomes.specs.Outcomes.{asked, Makes}
 use Rattle.outcomes.proofs.Making.{makes-failed}
-use Rattle.speak.proofs.Speaking.{kill-yes, kill-no, kill-illegal, speak-illegal, speak-legal}
+use Rattle.speak.proofs.Speaking.{kill-yes, kill-no, kill-illegal, speak-illegal, speak-legal, kill-told, ignored-told}
 use borrow.Author.Needs.{needs}
 use Rattle.speak.proofs.speak.Statement.{statement}
 use Rattle.speak.proofs.speak.Tie as tie
 
+asked-ignored : (c : tie.After-meets) (v : View) (major minor : ℕ) (fs : Fields (List ℕ)) → let a = c .before .before .args in
+    Tells (a .f .now) (a .h) fs → c .meets .result ≡ ignoresAny (asked major minor Method.Speak (a .id) fs)
+asked-ignored c v major minor fs told =
+    let a = c .before .before .args in
+    c .meets .ensures ∙ ignored-told v major minor (a .id) fs (a .f .now) (a .h) told
+
+asked-kill : (c : tie.After-kill-of) (v : View) (major minor : ℕ) (fs : Fields (List ℕ)) → let a = c .before .before .before .before .args in
+    Tells (a .f .now) (a .h) fs → c .kill-of .result ≡ killOf (acting KillOnBargeIn (asked major minor Method.Speak (a .id) fs))
+asked-kill c v major minor fs told =
+    let a = c .before .before .before .before .args in
+    c .kill-of .ensures
+    ∙ ap (λ g. killOf (givenOf (a .f .now) g)) (c .before .value .ensures)
+    ∙ ap killOf (kill-told v major minor (a .id) fs (a .f .now) (a .h) told)
+
+meets-requires : tie.Need-meets-requires
+meets-requires c κs = search needs
+
+value-requires : tie.Need-value-requires
+value-requires c κs = search needs
+
+kill-of-requires : tie.Need-kill-of-requires
+kill-of-requires c κs = search needs
+
 enum-told : tie.Need-enum-told
 enum-told c = search needs
 
-speak-killable-requires : tie.Need-speak-killable-requires
-speak-killable-requires c κs = search needs
+speak-content-requires : tie.Need-speak-content-requires
+speak-content-requires c κs = search needs
 
 enum-told-2 : tie.Need-enum-told-2
 enum-told-2 c = search needs
 
-speak-killable-requires-2 : tie.Need-speak-killable-requires-2
-speak-killable-requires-2 c κs = search needs
+speak-content-requires-2 : tie.Need-speak-content-requires-2
+speak-content-requires-2 c κs = search needs
 
 enum-told-3 : tie.Need-enum-told-3
 enum-told-3 c = search needs
@@ -33,34 +62,43 @@ failed-requires : tie.Need-failed-requires
 failed-requires c κs = search needs
 
 returns : tie.Need-returns
-returns c = λ major minor fs i k h.
-    let a = c .before .before .before .args in
-    let said = kill-yes (acting KillOnBargeIn (asked major minor Method.Speak (a .id) fs)) (sym (c .before .enum-told .given .1) ∙ k) in
-    subst (Makes (view (a .c) .name) (c .speak-killable .result)) (sym (speak-legal (view (a .c)) major minor (a .id) fs (said .0)))
-    (c .speak-killable .ensures major minor fs i (said .1) h)
+returns c =
+    λ v major minor fs told.
+    let a = c .before .before .before .before .before .before .before .args in
+    let w = withQueue (a .state) (listOf (a .q)) v in
+    let said = kill-yes (acting KillOnBargeIn (asked major minor Method.Speak (a .id) fs)) (sym (c .before .enum-told .given .1) ∙ asked-kill (c .before .before .before) v major minor fs told) in
+    subst (Makes w (c .speak-content .result)) (sym (speak-legal w major minor (a .id) fs (said .0)))
+    (c .speak-content .ensures v major minor fs (told, asked-ignored (c .before .before .before .before .before) v major minor fs told, λ i. record { id = a .id; kill = said .1 i }))
 
 returns-2 : tie.Need-returns-2
-returns-2 c = λ major minor fs i k h.
-    let a = c .before .before .before .args in
-    let said = kill-no (acting KillOnBargeIn (asked major minor Method.Speak (a .id) fs)) (sym (c .before .enum-told2 .given .1) ∙ k) in
-    subst (Makes (view (a .c) .name) (c .speak-killable2 .result)) (sym (speak-legal (view (a .c)) major minor (a .id) fs (said .0)))
-    (c .speak-killable2 .ensures major minor fs i (said .1) h)
+returns-2 c =
+    λ v major minor fs told.
+    let a = c .before .before .before .before .before .before .before .args in
+    let w = withQueue (a .state) (listOf (a .q)) v in
+    let said = kill-no (acting KillOnBargeIn (asked major minor Method.Speak (a .id) fs)) (sym (c .before .enum-told2 .given .1) ∙ asked-kill (c .before .before .before) v major minor fs told) in
+    subst (Makes w (c .speak-content2 .result)) (sym (speak-legal w major minor (a .id) fs (said .0)))
+    (c .speak-content2 .ensures v major minor fs (told, asked-ignored (c .before .before .before .before .before) v major minor fs told, λ i. record { id = a .id; kill = said .1 i }))
 
 returns-3 : tie.Need-returns-3
-returns-3 c = λ major minor fs i k h.
-    let a = c .before .before .before .before .args in
+returns-3 c =
+    λ v major minor fs told.
+    let a = c .before .before .before .before .before .before .before .before .args in
     let r = asked major minor Method.Speak (a .id) fs in
-    makes-failed (a .c) r _ 404 (c .before .illegal-value .ensures) (c .failed .ensures)
-    (speak-illegal (view (a .c)) major minor (a .id) fs (kill-illegal (acting KillOnBargeIn r) (sym (c .before .before .enum-told3 .given .1) ∙ k)))
+    makes-failed v r (a .state) (a .q) 404 (c .before .illegal-value .ensures) (c .failed .ensures)
+    (speak-illegal (withQueue (a .state) (listOf (a .q)) v) major minor (a .id) fs
+    (kill-illegal (acting KillOnBargeIn r) (sym (c .before .before .enum-told3 .given .1) ∙ asked-kill (c .before .before .before .before) v major minor fs told)))
 
 pub speak-spec : {M : Type 1} → statement M
 speak-spec =
     tie.close
     (tie.spec
+    meets-requires
+    value-requires
+    kill-of-requires
     enum-told
-    speak-killable-requires
+    speak-content-requires
     enum-told-2
-    speak-killable-requires-2
+    speak-content-requires-2
     enum-told-3
     illegal-value-requires
     failed-requires

@@ -13,7 +13,7 @@ use Rattle.ledger.proofs.Theorems.Balance.{balance}
 use Rattle.synth.specs.Channel.{View, wellNamed, held, firstAbove}
 use Rattle.synth.specs.Calls.{Call, Reply, Opened, call, openChannel}
 use Rattle.synth.specs.Demand3.{accepts, closes, Meets, Demand3, Demand3AsFunctions}
-use Rattle.synth.proofs.Books.{call-effect}
+use Rattle.synth.proofs.LedgerSteps.{call-effect}
 
 opened-empty : (name : List ℕ) → held (openChannel name .channel) ≡ []
 unfolding openChannel

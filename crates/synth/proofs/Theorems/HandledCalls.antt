@@ -1,5 +1,5 @@
--- A client message that returned 0: the channel is sound, what is heard at the front of the input is a request, and the call gives what judging
--- it gives. In an output of 305 bytes or more its frame alone gives the same, and so does whatever is heard alike. An engine report that
+-- A client message that returned 0: the channel is sound, what is readBytes at the front of the input is a request, and the call gives what judging
+-- it gives. In an output of 305 bytes or more its frame alone gives the same, and so does whatever is readBytes alike. An engine report that
 -- returned 0: the channel is sound and speaks, the cause is at most 7, and the call gives what ending the active request gives; in an output of
 -- 305 bytes or more the same cause gives the same. Assumes nothing.
 use Prim.Native.Nat.{ℕ, _≤_}
@@ -12,9 +12,9 @@ use lib.ListN.{length, take}
 use borrow.Author.Tests.{ltb-false, le-ltb}
 use Rattle.lists.proofs.Tests.{choose}
 use Rattle.message.specs.Message.{request, response, event, Fields, Head, Reading, refused, message}
-use Rattle.message.specs.Reading.{heard}
+use Rattle.message.specs.Reading.{readBytes}
 use Rattle.message.proofs.Refusals.{refused-number}
-use Rattle.message.proofs.Theorems.ReadAlone.{heard-alone}
+use Rattle.message.proofs.Theorems.ReadAlone.{bytes-alone}
 use Rattle.answer.specs.Written.{writtenAll}
 use Rattle.ledger.specs.Ledger.{Turn}
 use Rattle.synth.specs.Channel.{View, sound}
@@ -24,7 +24,7 @@ use Rattle.synth.specs.Calls.{input, cause, Call, Reply, refuse, deliver
 use Rattle.synth.specs.declared.State.{State}
 use Rattle.synth.specs.declared.State.the-variants.{Idle, Speaking, Paused}
 use Rattle.synth.specs.declared.Entry.{Entry}
-use Rattle.synth.proofs.Heard.{Framed, heard-framed}
+use Rattle.synth.proofs.ReadFrames.{Framed, bytes-framed}
 use Rattle.synth.proofs.Theorems.Room.{never-7}
 
 -- a client message or an engine report, with an output of so many bytes
@@ -48,12 +48,12 @@ pub record HandledRequest (v : View) (s : List ℕ) (t : Turn View Reply) : Type
   pub name : List ℕ
   pub id : ℕ
   pub fields : Fields (List ℕ)
-  pub hears : heard s ≡ message head (request name id) fields
+  pub hears : readBytes s ≡ message head (request name id) fields
   pub framed : Framed s head
   pub delivers : Delivers (head .stated) (judge v (requestOf head name id fields)) t
 
-abbrev pub requestHeard : {v : View} {s : List ℕ} {t : Turn View Reply} → HandledRequest v s t → Request
-requestHeard h = requestOf (h .head) (h .name) (h .id) (h .fields)
+abbrev pub requestRead : {v : View} {s : List ℕ} {t : Turn View Reply} → HandledRequest v s t → Request
+requestRead h = requestOf (h .head) (h .name) (h .id) (h .fields)
 
 -- the active request, ended
 pub record HandledReport (v : View) (n : ℕ) (t : Turn View Reply) : Type 0 where
@@ -91,7 +91,7 @@ module _ (v : View) (consumed room : ℕ) (o : Outcome) where
   delivered-not-7 = delivered (λ (t : Turn View Reply). t .reply .number ≡ 7 → ⊥) (λ h. h refl)
 
 module _ (v : View) (s : List ℕ) (room : ℕ) where
-  answered : sound v ≡ true → (m : Reading (List ℕ)) → heard s ≡ m → answer v room m .reply .number ≡ 0 → HandledRequest v s (answer v room m)
+  answered : sound v ≡ true → (m : Reading (List ℕ)) → readBytes s ≡ m → answer v room m .reply .number ≡ 0 → HandledRequest v s (answer v room m)
   answered b (refused n k) e z = absurd (omega (arith, refused-number s n k e))
   answered b (message h (request name id) fs) e z = record {
     on-sound = b;
@@ -100,7 +100,7 @@ module _ (v : View) (s : List ℕ) (room : ℕ) where
     id = id;
     fields = fs;
     hears = e;
-    framed = heard-framed s h (request name id) fs e;
+    framed = bytes-framed s h (request name id) fs e;
     delivers = delivered-0 v (h .stated) room (judge v (requestOf h name id fs)) z;
   }
   answered b (message h (response id status state) fs) e z = absurd (omega arith)
@@ -109,7 +109,7 @@ module _ (v : View) (s : List ℕ) (room : ℕ) where
   pub request-handled : call v (lending s room) .reply .number ≡ 0 → HandledRequest v s (call v (lending s room))
   unfolding call
   request-handled =
-      choose (λ (t : Turn View Reply). t .reply .number ≡ 0 → HandledRequest v s t) (sound v) (λ b. answered b (heard s) refl)
+      choose (λ (t : Turn View Reply). t .reply .number ≡ 0 → HandledRequest v s t) (sound v) (λ b. answered b (readBytes s) refl)
       (λ _ z. absurd (omega arith))
 
 module _ (v : View) (n room : ℕ) where
@@ -145,17 +145,17 @@ with-room v c consumed o t roomy e g =
     e ∙ same-turn (delivered-not-7 v consumed (c .room) o (λ z. never-7 v c roomy (ap (λ (t : Turn View Reply). t .reply .number) e ∙ z))) g
 
 module _ {v : View} {s : List ℕ} {t : Turn View Reply} (h : HandledRequest v s t) where
-  pub heard-alike : (u : List ℕ) (room : ℕ) → 305 ≤ room → heard u ≡ heard s → call v (lending u room) ≡ t
+  pub bytes-alike : (u : List ℕ) (room : ℕ) → 305 ≤ room → readBytes u ≡ readBytes s → call v (lending u room) ≡ t
   unfolding call
-  heard-alike u room roomy e =
-      with-room v (lending u room) (h .head .stated) (judge v (requestHeard h)) t roomy
+  bytes-alike u room roomy e =
+      with-room v (lending u room) (h .head .stated) (judge v (requestRead h)) t roomy
       (rw (h .on-sound, call) (ap (answer v room) (e ∙ h .hears))) (h .delivers)
 
-  pub frame-heard : heard (take (t .reply .consumed) s) ≡ heard s
-  frame-heard = ap (λ n. heard (take n s)) (h .delivers .consumes) ∙ heard-alone s _ _ _ _ (h .framed .frame)
+  pub frame-read : readBytes (take (t .reply .consumed) s) ≡ readBytes s
+  frame-read = ap (λ n. readBytes (take n s)) (h .delivers .consumes) ∙ bytes-alone s _ _ _ _ (h .framed .frame)
 
   pub frame-suffices : (room : ℕ) → 305 ≤ room → call v (lending (take (t .reply .consumed) s) room) ≡ t
-  frame-suffices room roomy = heard-alike (take (t .reply .consumed) s) room roomy frame-heard
+  frame-suffices room roomy = bytes-alike (take (t .reply .consumed) s) room roomy frame-read
 
 module _ {v : View} {n : ℕ} {t : Turn View Reply} (h : HandledReport v n t) where
   pub cause-suffices : (room : ℕ) → 305 ≤ room → call v (reporting n room) ≡ t

@@ -13,11 +13,11 @@ use Rattle.lists.proofs.Membership.{elem-head}
 use Rattle.octets.specs.Octets.{bytes}
 use Rattle.message.specs.Message.{request, response, event, good, message, Message}
 use Rattle.message.specs.Known.{knownOf, valueOf}
-use Rattle.message.specs.Reading.{heard}
+use Rattle.message.specs.Reading.{readBytes}
 use Rattle.message.specs.declared.Known.the-variants.{ChannelIdentifier}
 use Rattle.message.specs.declared.RequestState.{RequestState}
 use Rattle.message.specs.declared.RequestState.the-variants.{Complete}
-use Rattle.message.proofs.Theorems.IdsInRange.{id-heard}
+use Rattle.message.proofs.Theorems.IdsInRange.{id-bytes}
 use Rattle.answer.specs.Written.{written, writtenAll}
 use Rattle.answer.specs.Writable.{Writable}
 use Rattle.answer.specs.Answers as A
@@ -36,7 +36,7 @@ use Rattle.synth.proofs.Names.{name-fits}
 use Rattle.synth.proofs.Verdicts.{isFailure}
 use Rattle.synth.proofs.Methods.{judge-good}
 use Rattle.synth.proofs.Responses.{judged-says}
-use Rattle.synth.proofs.Theorems.HandledCalls.{HandledRequest, requestHeard, HandledReport}
+use Rattle.synth.proofs.Theorems.HandledCalls.{HandledRequest, requestRead, HandledReport}
 
 -- one message, which is a response to r under that name
 pub record OneResponse (name : List ℕ) (r : Request) (says : List Message) : Type 0 where
@@ -80,7 +80,7 @@ pub record WritesOne (m : Message) (w : List ℕ) : Type 0 where
   pub bytes-of : w ≡ written m
   pub writable : Writable m
   pub reads-back : (rest : List ℕ)
-      → heard (w ++ rest) ≡ message (record { stated = length w; major = 2; minor = 0 }) (m .start) (good (m .fields) (m .body))
+      → readBytes (w ++ rest) ≡ message (record { stated = length w; major = 2; minor = 0 }) (m .start) (good (m .fields) (m .body))
 
 writes-alone : (m : Message) (says : List Message) (w : List ℕ) → says ≡ m ∷ [] → Writable m → w ≡ writtenAll says → WritesOne m w
 unfolding writtenAll
@@ -89,12 +89,12 @@ writes-alone m says w one h e =
     record { bytes-of = b; writable = h; reads-back = λ rest. rw b (read-back m rest h) }
 
 module _ {v : View} {s : List ℕ} {t : Turn View Reply} (h : HandledRequest v s t) where
-  pub request-writes : WritesOne (one-response v (requestHeard h) .message) (t .reply .written)
+  pub request-writes : WritesOne (one-response v (requestRead h) .message) (t .reply .written)
   request-writes =
-      let o = one-response v (requestHeard h) in
-      let id = id-heard s (h .head) (request (h .name) (h .id)) (h .fields) (h .hears) in
-      let all = judge-good v (sound-facts v (h .on-sound)) (requestHeard h) id .writable in
-      writes-alone (o .message) (judge v (requestHeard h) .says) (t .reply .written) (o .alone) (subst (All Writable) (o .alone) all .0)
+      let o = one-response v (requestRead h) in
+      let id = id-bytes s (h .head) (request (h .name) (h .id)) (h .fields) (h .hears) in
+      let all = judge-good v (sound-facts v (h .on-sound)) (requestRead h) id .writable in
+      writes-alone (o .message) (judge v (requestRead h) .says) (t .reply .written) (o .alone) (subst (All Writable) (o .alone) all .0)
       (h .delivers .writes)
 
 module _ {v : View} {n : ℕ} {t : Turn View Reply} (h : HandledReport v n t) where

@@ -8,7 +8,7 @@ use lib.Dec.{ltb}
 use lib.ListN.{length}
 use Rattle.lists.proofs.Tests.{choose}
 use Rattle.message.specs.Message.{Reading, refused, message, request, response, event}
-use Rattle.message.specs.Reading.{heard}
+use Rattle.message.specs.Reading.{readBytes}
 use Rattle.answer.specs.Written.{writtenAll}
 use Rattle.ledger.specs.Ledger.{Turn}
 use Rattle.synth.specs.Channel.{View, sound}
@@ -23,7 +23,7 @@ use Rattle.synth.proofs.Pauses.{Silent, Kept, judge-kept}
 
 -- the request at the front of the input is of that method
 abbrev pub Asks : Lent → Method → Type 0
-Asks (input s) m = (id : ℕ) × (askedBy (heard s) ≡ some (record { method = m; id = id }))
+Asks (input s) m = (id : ℕ) × (askedBy (readBytes s) ≡ some (record { method = m; id = id }))
 Asks (cause n) m = ⊥
 
 module _ (v : View) (paused : v .state ≡ Paused) where
@@ -34,7 +34,7 @@ module _ (v : View) (paused : v .state ≡ Paused) where
   never : (lent : Lent) → v .state ≡ Speaking → Asks lent Method.Resume
   never lent e = absurd (subst Silent (sym paused ∙ e) tt)
 
-  by-method : (s : List ℕ) (m : Method) (id : ℕ) (state : State) → askedBy (heard s) ≡ some (record { method = m; id = id }) → Kept m state
+  by-method : (s : List ℕ) (m : Method) (id : ℕ) (state : State) → askedBy (readBytes s) ≡ some (record { method = m; id = id }) → Kept m state
       → state ≡ Speaking → Asks (input s) Method.Resume
   by-method s Method.Speak id state a k e = absurd (subst Silent e k)
   by-method s Method.Stop id state a k e = absurd (subst Silent e k)
@@ -44,7 +44,7 @@ module _ (v : View) (paused : v .state ≡ Paused) where
   by-method s Method.BargeInOccurred id state a k e = absurd (subst Silent e k)
   by-method s Method.Unknown id state a k e = absurd (subst Silent e k)
 
-  answered : (s : List ℕ) (room : ℕ) (m : Reading (List ℕ)) → heard s ≡ m → Keeps (input s) (answer v room m)
+  answered : (s : List ℕ) (room : ℕ) (m : Reading (List ℕ)) → readBytes s ≡ m → Keeps (input s) (answer v room m)
   unfolding deliver
   answered s room (refused n k) e = never (input s)
   answered s room (message h (request name id) fs) e =
@@ -61,7 +61,7 @@ module _ (v : View) (paused : v .state ≡ Paused) where
   reports n room Paused e = never (cause n)
 
   sounded : (lent : Lent) (room : ℕ) → Keeps lent (onSound lent v room)
-  sounded (input s) room = answered s room (heard s) refl
+  sounded (input s) room = answered s room (readBytes s) refl
   sounded (cause n) room = choose (Keeps (cause n)) (ltb 7 n) (λ t. never (cause n)) (λ t. reports n room (v .state) paused)
 
   pub only-resume : (c : Call) → call v c .next .state ≡ Speaking → Asks (c .lent) Method.Resume

@@ -6,13 +6,6 @@ use Rattle.writing.specs.Writing.{stateAt}
 use Rattle.writing.proofs.Telling.{answered, state-refused}
 use Rattle.writing.proofs.klarvesimo_write_response.Statement.{statement}
 use Rattle.writing.proofs.klarvesimo_write_response.Tie as tie
-use Rattle.writing.proofs.klarvesimo_write_response.Reads as reads
-use Rattle.writing.proofs.klarvesimo_write_response.Lts as lts
-use Rattle.answer.proofs.Status.complete.Reads as complete-reads
-use Rattle.answer.proofs.Status.in_progress.Reads as in-progress-reads
-use Rattle.answer.proofs.Status.pending.Reads as pending-reads
-use Rattle.output.proofs.respond.Reads as respond-reads
-use Rattle.writing.proofs.tell.Reads as tell-reads
 
 pending-requires : tie.Need-pending-requires
 pending-requires c κs = search needs

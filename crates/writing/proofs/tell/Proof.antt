@@ -5,8 +5,6 @@ use Rattle.writing.specs.Writing.{told}
 use borrow.Author.Needs.{needs}
 use Rattle.writing.proofs.tell.Statement.{statement}
 use Rattle.writing.proofs.tell.Tie as tie
-use Rattle.writing.proofs.tell.Reads as reads
-use Rattle.writing.proofs.tell.Lts as lts
 
 enum-known-w : tie.Need-enum-known-w
 enum-known-w c = search needs

@@ -1,0 +1,70 @@
+-- `channelnumbers::save` writes the four numbers in front, the queue's and the name's. Assumes nothing.
+use mathlib.Core.Path.{refl}
+use native.Mathlib.Omega.{arith}
+use Rattle.channelnumbers.proofs.Saving.{counted, sized, saved-numbers}
+use borrow.Author.Needs.{needs}
+use Rattle.channelnumbers.proofs.save.Statement.{statement}
+use Rattle.channelnumbers.proofs.save.Tie as tie
+
+returns : tie.Need-returns
+returns c =
+    let at = c .before .before .before .before .before in
+    let many = counted (at .args .c) _ (at .good .1 .0) in
+    (λ short few. absurd (omega (arith, few, many, c .if1 .taken)), (λ long. refl, λ more. refl))
+
+returns-2 : tie.Need-returns-2
+returns-2 c =
+    let at = c .before .before .before .before .before .before .before in
+    let long = sized (at .args .c) _ (at .good .1 .0) in
+    (λ short few. absurd (omega (arith, short, long, c .if2 .taken)), (λ long. refl, λ more. refl))
+
+state-number-requires : tie.Need-state-number-requires
+state-number-requires c κs = search needs
+
+element-write-ws : tie.Need-element-write-ws
+element-write-ws c = search needs
+
+first-above-requires : tie.Need-first-above-requires
+first-above-requires c κs = search needs
+
+element-write-ws-2 : tie.Need-element-write-ws-2
+element-write-ws-2 c = search needs
+
+element-write-ws-3 : tie.Need-element-write-ws-3
+element-write-ws-3 c = search needs
+
+element-write-ws-4 : tie.Need-element-write-ws-4
+element-write-ws-4 c = search needs
+
+save-queue-requires : tie.Need-save-queue-requires
+save-queue-requires c κs = search needs
+
+save-name-requires : tie.Need-save-name-requires
+save-name-requires c κs = search needs
+
+returns-3 : tie.Need-returns-3
+returns-3 c =
+    let at = c .before .before .before .before .before .before .before .before .before .before .before .before .before in
+    let ch = at .args .c in
+    let good = at .good .1 .0 in
+    let few = c .before .before .before .before .before .before .before .before .if1 .left in
+    let short = c .before .before .before .before .before .before .if2 .left in (
+      λ h k. saved-numbers ch _ good (at .args .last) few short (c .before .before .save-queue .ensures) (c .save-name .ensures) (c .before .before .before .before .before .state-number .ensures) (c .before .before .before .before .first-above .ensures .0),
+      (λ long. absurd (omega (arith, long, short, sized ch _ good)), λ many. absurd (omega (arith, many, few, counted ch _ good))),
+    )
+
+pub save-spec : {M : Type 1} → statement M
+save-spec =
+    tie.close
+    (tie.spec
+    returns
+    returns-2
+    state-number-requires
+    element-write-ws
+    first-above-requires
+    element-write-ws-2
+    element-write-ws-3
+    element-write-ws-4
+    save-queue-requires
+    save-name-requires
+    returns-3)

@@ -1,0 +1,79 @@
+-- `channelnumbers::save_queue` meets its contract. The invariant: i entries stand in their places. The measure is what is left of the count. Assumes nothing.
+use Prim.Native.Nat.{_-_, _≤_}
+use mathlib.Core.Path.{_≡_}
+use mathlib.Core.List.{map}
+use native.Mathlib.Omega.{arith}
+use lib.ListN.{length}
+use Rattle.queue.proofs.Queues.{entries-16}
+use Rattle.channelnumbers.specs.Numbers.{entryNumber}
+use Rattle.channelnumbers.specs.Steps.{Stored}
+use Rattle.channelnumbers.proofs.Saving.{stored-none, entry-more}
+use borrow.Author.Needs.{needs}
+use Rattle.channelnumbers.proofs.save_queue.Statement.{statement}
+use Rattle.channelnumbers.proofs.save_queue.Tie as tie
+
+abbrev Inv-loop : tie.InvT-loop
+Inv-loop ws₀ count entries i₀ ws i = (i ≤ count) × (count ≤ 16) × (length entries ≡ 16) × Stored ws₀ 4 (map entryNumber entries) i ws
+
+abbrev μ-loop : tie.MeasureT-loop
+μ-loop ws₀ count entries i₀ ws i = count - i
+
+loop-holds : tie.Need-loop-holds Inv-loop μ-loop
+loop-holds c =
+    let at = c .before in
+    (omega arith, search needs, entries-16 (at .args .q) _ (at .good .0), stored-none (at .args .ws .now) 4 (map entryNumber (at .args .q .entries)) (search needs))
+
+mul-entry-number : tie.Need-mul-entry-number Inv-loop μ-loop
+mul-entry-number c = search needs
+
+array-copy-out-entry-number : tie.Need-array-copy-out-entry-number Inv-loop μ-loop
+array-copy-out-entry-number c = search needs
+
+entry-number-requires : tie.Need-entry-number-requires Inv-loop μ-loop
+entry-number-requires c κs = search needs
+
+add-ws : tie.Need-add-ws Inv-loop μ-loop
+add-ws c = search needs
+
+mul-ws : tie.Need-mul-ws Inv-loop μ-loop
+mul-ws c = search needs
+
+element-write-ws : tie.Need-element-write-ws Inv-loop μ-loop
+element-write-ws c = search needs
+
+add-i : tie.Need-add-i Inv-loop μ-loop
+add-i c = search needs
+
+loop-less : tie.Need-loop-less Inv-loop μ-loop
+loop-less c = search needs
+
+loop-again : tie.Need-loop-again Inv-loop μ-loop
+loop-again c =
+    let l = c .before .before .before .loop in
+    let inv = l .inv in
+    (omega arith, inv .1, inv .2, entry-more (c .before .before .before .before .before .args .q .entries) _ (inv .2) (omega arith) (inv .3) (c .entry-number .ensures))
+
+returns : tie.Need-returns Inv-loop μ-loop
+returns c =
+    let a = c .before .before .before .args in
+    let l = c .before .loop in
+    let end : l .i ≡ a .q .count = omega (arith, l .inv .0, c .loop-test .left) in
+    rw end at (l .inv .3)
+
+pub save-queue-spec : {M : Type 1} → statement M
+save-queue-spec =
+    tie.close
+    (tie.spec
+    Inv-loop
+    μ-loop
+    loop-holds
+    mul-entry-number
+    array-copy-out-entry-number
+    entry-number-requires
+    add-ws
+    mul-ws
+    element-write-ws
+    add-i
+    loop-less
+    loop-again
+    returns)

@@ -1,0 +1,12 @@
+-- What the steps of saving leave of the 64 numbers.
+use Prim.Native.Nat.{ℕ}
+use mathlib.Core.Path.{_≡_}
+use mathlib.Core.List.{List}
+use lib.ListN.{length}
+use lib.Seq.{paste}
+
+-- the first n of l stand in ws, from `at` on, in place of what stood in w
+pub record Stored (w : List ℕ) (at : ℕ) (l : List ℕ) (n : ℕ) (ws : List ℕ) : Type 0 where
+  pub long : length w ≡ 64
+  pub kept : length ws ≡ 64
+  pub pasted : ws ≡ paste w at l n

@@ -1,0 +1,38 @@
+-- `loading::front_fits` meets its contract. Assumes nothing.
+use borrow.Author.Tests.{le-leb, lt-leb}
+use borrow.Author.Needs.{needs}
+use Rattle.loading.proofs.front_fits.Statement.{statement}
+use Rattle.loading.proofs.front_fits.Tie as tie
+
+element-copy-out-if1 : tie.Need-element-copy-out-if1
+element-copy-out-if1 c = search needs
+
+returns : tie.Need-returns
+returns c =
+    let ws = c .before .before .args .ws .now in
+    rw (lt-leb _ 2 (c .if1 .taken))
+
+element-copy-out-if2 : tie.Need-element-copy-out-if2
+element-copy-out-if2 c = search needs
+
+returns-2 : tie.Need-returns-2
+returns-2 c =
+    rw (le-leb _ 2 (c .before .before .if1 .left), lt-leb _ 4294967296 (c .if2 .taken))
+
+element-copy-out-result : tie.Need-element-copy-out-result
+element-copy-out-result c = search needs
+
+returns-3 : tie.Need-returns-3
+returns-3 c =
+    rw (le-leb _ 2 (c .before .before .before .if1 .left), le-leb _ 4294967296 (c .before .if2 .left))
+
+pub front-fits-spec : {M : Type 1} → statement M
+front-fits-spec =
+    tie.close
+    (tie.spec
+    element-copy-out-if1
+    returns
+    element-copy-out-if2
+    returns-2
+    element-copy-out-result
+    returns-3)

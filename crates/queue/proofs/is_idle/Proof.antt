@@ -1,0 +1,27 @@
+-- `queue::is_idle` meets its contract: each state by itself. Assumes nothing.
+use mathlib.Core.Path.{sym, ap}
+use Rattle.synth.specs.Channel.{isIdle}
+use borrow.Author.Needs.{needs}
+use Rattle.queue.proofs.is_idle.Statement.{statement}
+use Rattle.queue.proofs.is_idle.Tie as tie
+
+enum-told : tie.Need-enum-told
+enum-told c = search needs
+
+enum-told-2 : tie.Need-enum-told-2
+enum-told-2 c = search needs
+
+enum-told-3 : tie.Need-enum-told-3
+enum-told-3 c = search needs
+
+returns : tie.Need-returns
+returns c = ap isIdle (sym (c .enum-told .given .1))
+
+returns-2 : tie.Need-returns-2
+returns-2 c = ap isIdle (sym (c .enum-told2 .given .1))
+
+returns-3 : tie.Need-returns-3
+returns-3 c = ap isIdle (sym (c .enum-told3 .given .1))
+
+pub is-idle-spec : {M : Type 1} → statement M
+is-idle-spec = tie.close (tie.spec enum-told enum-told-2 enum-told-3 returns returns-2 returns-3)
