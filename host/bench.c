@@ -8,6 +8,7 @@
 
 #include "../include/klarvesimo.h"
 #include "stack.h"
+#include "usage.h"
 #include "writing.h"
 
 #define CHANNEL_NAME "7f3a@speechsynth"
@@ -20,7 +21,7 @@ static size_t length;
 static uint64_t prepared[KLARVESIMO_CHANNEL]; /* the channel as it is before each call */
 
 /* what a call is lent and gives: in no function's frame, so that the stack which is measured is the library's own */
-static uint64_t channel[KLARVESIMO_CHANNEL], numbers[KLARVESIMO_MOST], counts[2];
+static uint64_t channel[KLARVESIMO_CHANNEL], numbers[KLARVESIMO_MOST], counts[KLARVESIMO_COUNTS];
 static uint32_t ids[KLARVESIMO_MOST_HELD], number;
 
 /* a message that has come to its text, filled to `size` bytes by its body */
@@ -55,14 +56,17 @@ static void frames(void) { number = klarvesimo_frame(message, length, numbers, K
 static void reads(void) { number = klarvesimo_read(message, length, numbers, KLARVESIMO_MOST, counts); }
 static void opens(void) { number = klarvesimo_open(channel, (const uint8_t *)CHANNEL_NAME, sizeof CHANNEL_NAME - 1); }
 static void handles(void) { number = klarvesimo_handle(channel, message, length, out, sizeof out, counts); }
-static void reports(void) { number = klarvesimo_report(channel, 0, out, sizeof out, counts); }
+static void reports(void) { number = klarvesimo_report(channel, KLARVESIMO_CAUSE_NORMAL, out, sizeof out, counts); }
 static void asks_held(void) { number = klarvesimo_held(channel, numbers, KLARVESIMO_MOST_HELD, counts); }
 static void responds(void) {
-  number = klarvesimo_write_response((const uint8_t *)CHANNEL_NAME, sizeof CHANNEL_NAME - 1, 7, 200, 2, ids, 0, out, sizeof out, counts);
+  static const uint8_t name[] = CHANNEL_NAME;
+  number = klarvesimo_write_response(name, sizeof name - 1, 7, 200, KLARVESIMO_IN_PROGRESS, ids, 0, out, sizeof out,
+                                     counts);
 }
 static void responds_longest(void) {
   static const uint8_t name[] = "0123456789abcdef0123456789abcdef@speechsynth";
-  number = klarvesimo_write_response(name, sizeof name - 1, UINT32_MAX, 200, 3, ids, KLARVESIMO_MOST_HELD, out, sizeof out, counts);
+  number = klarvesimo_write_response(name, sizeof name - 1, UINT32_MAX, 200, KLARVESIMO_COMPLETE, ids,
+                                     KLARVESIMO_MOST_HELD, out, sizeof out, counts);
 }
 
 static void refused(void) {
@@ -181,17 +185,27 @@ static const struct bench *case_of(const char *name) {
   return NULL;
 }
 
-static int usage(void) {
-  fputs("usage: bench CASE COUNT, bench CASE stack, or bench channel, where CASE is", stderr);
-  for (size_t i = 0; i < sizeof cases / sizeof *cases; i++) fprintf(stderr, " %s", cases[i].name);
-  fputc('\n', stderr);
+static char usage[600]; /* with the cases in it */
+
+static void make_usage(void) {
+  static const char words[] = "usage: bench CASE COUNT, bench CASE stack, or bench channel, where CASE is";
+  size_t at = (size_t)snprintf(usage, sizeof usage, "%s", words);
+  for (size_t i = 0; i < sizeof cases / sizeof *cases && at < sizeof usage; i++)
+    at += (size_t)snprintf(usage + at, sizeof usage - at, " %s", cases[i].name);
+  if (at < sizeof usage) snprintf(usage + at, sizeof usage - at, "\n");
+}
+
+static int wrong_words(void) {
+  fputs(usage, stderr);
   return 2;
 }
 
 int main(int words, char **word) {
+  make_usage();
+  usage_if_asked(words, word, usage);
   if (words == 2 && strcmp(word[1], "channel") == 0) return printf("%zu\n", (size_t)ALL) < 0;
   const struct bench *b = words == 3 ? case_of(word[1]) : NULL;
-  if (!b) return usage();
+  if (!b) return wrong_words();
   b->make();
   if (strcmp(word[2], "stack") != 0) return printf("%" PRIu64 "\n", b->run(atol(word[2]))) < 0;
   b->run(1); /* so that what the loader does at a first call is done */

@@ -1,9 +1,11 @@
-/* board [--name NAME] [--prompt MS] PORT: serves one channel on a port of 127.0.0.1, one client after the other; PORT 0 takes a free one.
+/* board [--name NAME] [--prompt MS] [--silence MS] PORT: serves one channel on a port of 127.0.0.1, one client after
+ * the other; PORT 0 takes a free one.
  *
- * The address is the one line on standard output; what else there is to say goes to standard error. The speech engine is played: with --prompt a
- * prompt ends normally after so many milliseconds of speaking, and a line `report CAUSE` on standard input ends the active one. A report for
- * which no client is there waits for the next. SIGTERM or SIGINT ends the board: it says which prompts were still held. Status 2 for words that
- * it cannot read, 1 where the system refuses something. */
+ * The address is the one line on standard output; what else there is to say is the log, on standard error. The
+ * speech engine is played: with --prompt a prompt ends normally after so many milliseconds of speaking, and a line
+ * `report CAUSE [ID]` on standard input ends the active one. A report for which no client is there waits for the
+ * next. SIGTERM, SIGINT or SIGHUP ends the board: it says which prompts were still held, and which messages no
+ * client has got for certain. Status 2 for words that it cannot read, 1 where the system refuses something. */
 #define _POSIX_C_SOURCE 200809L
 #include <arpa/inet.h>
 #include <errno.h>
@@ -20,15 +22,31 @@
 
 #include "connection.h"
 #include "engine.h"
+#include "log.h"
+#include "now.h"
 #include "number.h"
 #include "readable.h"
+#include "usage.h"
 
-enum { LONGEST_PROMPT = 86400000, KERNEL_QUEUE = 16384, WAITING_CLIENTS = 8, NO_ROOM = 7 };
+#define USAGE "usage: board [--name NAME] [--prompt MS] [--silence MS] PORT\n"
+
+enum { LONGEST_PROMPT = 86400000, LONGEST_SILENCE = 86400000, KERNEL_QUEUE = 16384, WAITING_CLIENTS = 8 };
+/* milliseconds: a client's silence, by default; and the listener's rest, where the system has no means */
+enum { SILENCE = 300000, REST = 250 };
+
+static const char HELP[] = USAGE
+    "  --name NAME    the channel's name: 7f3a@speechsynth\n"
+    "  --prompt MS    how long the played engine speaks a prompt; without it only lines on standard input end one\n"
+    "  --silence MS   a client that neither sends nor takes a byte for so long makes room for the next: 300000;\n"
+    "                 0 is for ever\n"
+    "  PORT           of 127.0.0.1; 0 takes a free one\n"
+    "A line `report CAUSE [ID]` on standard input is the engine's report, of the prompt that speaks or of this one.\n";
 
 static uint64_t channel[KLARVESIMO_CHANNEL];
-static struct connection client = {.socket = -1};
+static struct connection client = {.socket = -1, .silence = SILENCE};
 static struct engine engine = {.takes = BY_LINES_ALONE};
 static int listener, signals[2];
+static int64_t rests; /* until when no client is accepted; 0 where nothing was in the way of the last one */
 
 static void fail(const char *what) {
   fprintf(stderr, "board: %s: %s\n", what, strerror(errno));
@@ -36,7 +54,7 @@ static void fail(const char *what) {
 }
 
 static void wrong_word(const char *what, const char *why) {
-  fprintf(stderr, "board: %s: %s\nusage: board [--name NAME] [--prompt MS] PORT\n", what, why);
+  fprintf(stderr, "board: %s: %s\n" USAGE, what, why);
   exit(2);
 }
 
@@ -54,6 +72,8 @@ static uint16_t begin(char **word) {
     const char *option = *word++;
     if (strcmp(option, "--prompt") == 0)
       engine.takes = (int64_t)number_of("--prompt", *word, LONGEST_PROMPT);
+    else if (strcmp(option, "--silence") == 0)
+      client.silence = (int64_t)number_of("--silence", *word, LONGEST_SILENCE);
     else if (strcmp(option, "--name") == 0 && *word)
       name = *word;
     else
@@ -68,7 +88,8 @@ static uint16_t begin(char **word) {
 
 /* A small queue in the kernel as well: what a client has not taken is soon noticed. */
 static void begin_listening(uint16_t port) {
-  struct sockaddr_in address = {.sin_family = AF_INET, .sin_port = htons(port), .sin_addr.s_addr = htonl(INADDR_LOOPBACK)};
+  struct sockaddr_in address = {
+      .sin_family = AF_INET, .sin_port = htons(port), .sin_addr.s_addr = htonl(INADDR_LOOPBACK)};
   socklen_t size = sizeof address;
   int yes = 1, queue = KERNEL_QUEUE;
   listener = socket(AF_INET, SOCK_STREAM, 0);
@@ -76,7 +97,8 @@ static void begin_listening(uint16_t port) {
   setsockopt(listener, SOL_SOCKET, SO_REUSEADDR, &yes, sizeof yes);
   setsockopt(listener, SOL_SOCKET, SO_SNDBUF, &queue, sizeof queue); /* those accepted have it too */
   fcntl(listener, F_SETFL, O_NONBLOCK);
-  if (bind(listener, (struct sockaddr *)&address, size) != 0 || listen(listener, WAITING_CLIENTS) != 0) fail("the port");
+  if (bind(listener, (struct sockaddr *)&address, size) != 0) fail("the port");
+  if (listen(listener, WAITING_CLIENTS) != 0) fail("the port");
   if (getsockname(listener, (struct sockaddr *)&address, &size) != 0) fail("the port");
   printf("board: 127.0.0.1:%u\n", (unsigned)ntohs(address.sin_port));
   if (fflush(stdout) != 0) fail("standard output");
@@ -90,12 +112,25 @@ static void on_signal(int number) {
   errno = before;
 }
 
-static void begin_signals(void) {
-  struct sigaction action = {.sa_handler = on_signal};
+static void take_signal(int number, void (*handler)(int)) {
+  struct sigaction action = {.sa_handler = handler};
   sigemptyset(&action.sa_mask);
+  if (sigaction(number, &action, NULL) != 0) fail("signals");
+}
+
+/* What may not end or stop the board: a reader that is gone; and, in the background, a terminal that is read or
+ * written. */
+static void begin_signals(void) {
+  struct sigaction hangup;
   if (pipe(signals) != 0) fail("a pipe");
   fcntl(signals[1], F_SETFL, O_NONBLOCK);
-  if (sigaction(SIGTERM, &action, NULL) != 0 || sigaction(SIGINT, &action, NULL) != 0) fail("signals");
+  take_signal(SIGTERM, on_signal);
+  take_signal(SIGINT, on_signal);
+  if (sigaction(SIGHUP, NULL, &hangup) != 0) fail("signals");
+  if (hangup.sa_handler != SIG_IGN) take_signal(SIGHUP, on_signal); /* else it was started by nohup */
+  take_signal(SIGPIPE, SIG_IGN);
+  take_signal(SIGTTIN, SIG_IGN);
+  take_signal(SIGTTOU, SIG_IGN);
 }
 
 /* A standard stream that was closed must not become a socket. */
@@ -107,60 +142,129 @@ static void begin_streams(void) {
   close(fd);
 }
 
-/* The report that is due: whether it was made, or refused for good. */
-static int reports(void) {
-  uint32_t number = connection_report(&client, channel, engine.cause);
-  if (number == NO_ROOM)
-    fprintf(stderr, "board: report %" PRIu32 " waits for a client\n", engine.cause);
-  else if (number)
-    fprintf(stderr, "board: report %" PRIu32 " refused %" PRIu32 ", %s\n", engine.cause, number, refusal_meaning(number));
-  return number != NO_ROOM;
+/* the report that is due, as the log calls it, and what becomes of it; but once where it waits */
+static void say_report(const char *what) {
+  if (engine.said) return;
+  engine.said = 1;
+  log_begin();
+  log_add("report %" PRIu32, engine.cause);
+  if (engine.about) log_add(" of prompt %" PRIu64, engine.reported);
+  log_add(" %s", what);
+  log_end();
 }
 
-static void speak(void) {
-  int64_t now = engine_clock();
-  engine_follow(&engine, channel, now);
-  while (engine_due(&engine, now) && reports()) {
-    engine.due = 0;
-    engine_follow(&engine, channel, now);
+static void say_report_refused(uint32_t number) {
+  log_line("report %" PRIu32 " refused %" PRIu32 ", %s", engine.cause, number, refusal_meaning(number));
+}
+
+/* The report that is due: whether it was made, or never will be. One that comes late would end another prompt than
+ * its own. */
+static int reports(int64_t now) {
+  if (engine_late(&engine)) {
+    engine.said = 0;
+    say_report("comes late: that is not the first prompt held");
+    engine_forget(&engine);
+    return 1;
   }
+  uint32_t number = connection_report(&client, channel, engine.cause, now);
+  int paused = number == KLARVESIMO_NOT_SPEAKING && engine.has;
+  if (number == KLARVESIMO_NO_ROOM || paused) {
+    say_report(paused ? "waits, since that is paused" : "waits for a client");
+    return 0;
+  }
+  if (number == 0)
+    engine_reported(&engine);
+  else
+    say_report_refused(number), engine_forget(&engine);
+  return 1;
 }
 
-/* Until a signal comes: its number. The client comes before the lines, so that a line tells of all that was sent before it was written. */
+static void speak(int64_t now) {
+  do engine_follow(&engine, channel, now);
+  while (engine_due(&engine, now) && reports(now));
+}
+
+/* The next client. What was due before it came it is told before its own messages are handled; but not where it has
+ * left already. */
+static void greet(int64_t now) {
+  int came = connection_accept(&client, listener, now);
+  if (came < 0 && rests == 0) log_line("no client can be accepted: %s; tried again until one is", strerror(errno));
+  rests = came < 0 ? now + REST : 0;
+  if (came <= 0) return;
+  connection_receive(&client, now);
+  if (!client.end) speak(now);
+}
+
+/* How long poll may wait. */
+static int patience(int64_t now) {
+  int wait = sooner(engine_wait(&engine, now), connection_wait(&client, now));
+  return rests > now ? sooner(wait, until_ms(rests, now)) : wait;
+}
+
+/* Until a signal comes: its number. The client comes before the lines, so that a line tells of all that was sent
+ * before it was written. And it is looked at in each round, so that one that has left is not sent an event. */
 static int serve(void) {
   enum { SIGNALS, LISTENER, CLIENT, LINES, WATCHED };
-  struct pollfd on[WATCHED] = {{.fd = signals[0], .events = POLLIN}, {.fd = listener, .events = POLLIN}, {.fd = -1}, {.fd = -1}};
   for (;;) {
-    on[LISTENER].fd = client.socket < 0 ? listener : -1;
-    on[CLIENT] = connection_watch(&client);
-    on[LINES] = (struct pollfd){.fd = engine_wants_lines(&engine) ? STDIN_FILENO : -1, .events = POLLIN};
-    if (poll(on, WATCHED, engine_wait(&engine, engine_clock())) < 0) {
+    int64_t now = now_ms();
+    struct pollfd on[WATCHED] = {
+        [SIGNALS] = {.fd = signals[0], .events = POLLIN},
+        [LISTENER] = {.fd = client.socket < 0 && rests <= now ? listener : -1, .events = POLLIN},
+        [CLIENT] = connection_watch(&client),
+        [LINES] = {.fd = engine_wants_lines(&engine) ? STDIN_FILENO : -1, .events = POLLIN},
+    };
+    if (poll(on, WATCHED, patience(now)) < 0) {
       if (errno != EINTR) fail("poll");
       continue;
     }
     uint8_t number;
     if (on[SIGNALS].revents && read(signals[0], &number, 1) == 1) return number;
-    if (on[LISTENER].revents) connection_accept(&client, listener);
-    if (on[CLIENT].revents) connection_serve(&client, channel);
+    now = now_ms();
+    if (on[LISTENER].revents) greet(now);
+    connection_serve(&client, channel, now);
     if (on[LINES].revents) engine_read_lines(&engine);
-    speak();
+    speak(now);
   }
 }
 
-static int end(int signal_number) {
+static void end_connection(void) {
+  int64_t now = now_ms();
+  connection_close(&client, "the board ends", now);
+  for (; client.socket >= 0; now = now_ms()) {
+    poll(NULL, 0, connection_wait(&client, now));
+    connection_serve(&client, channel, now_ms());
+  }
+}
+
+/* what the channel holds, for the log: 0, or the library's refusal */
+static uint32_t say_held(void) {
   uint64_t ids[KLARVESIMO_MOST_HELD], count;
-  if (client.socket >= 0) connection_close(&client, "the board ends");
-  if (engine.due) fprintf(stderr, "board: report %" PRIu32 " was still waiting for a client\n", engine.cause);
   uint32_t number = klarvesimo_held(channel, ids, KLARVESIMO_MOST_HELD, &count);
-  fprintf(stderr, "board: ended by %s, held: ", signal_number == SIGINT ? "SIGINT" : "SIGTERM");
-  if (number) fprintf(stderr, "refused %" PRIu32 ", %s", number, refusal_meaning(number));
-  if (count == 0) fputs("none", stderr);
-  for (uint64_t i = 0; i < count; i++) fprintf(stderr, "%s%" PRIu64, i > 0 ? "," : "", ids[i]);
-  fputc('\n', stderr);
+  if (number) log_add("refused %" PRIu32 ", %s", number, refusal_meaning(number));
+  if (!number && count == 0) log_add("none");
+  for (uint64_t i = 0; i < count; i++) log_add("%s%" PRIu64, i > 0 ? "," : "", ids[i]);
+  return number;
+}
+
+static int end(int by) {
+  log_last_words();
+  end_connection();
+  engine.said = 0;
+  if (engine.due) say_report("was still waiting");
+  struct names waiting = outbox_waiting(&client.out);
+  log_begin();
+  log_add("ended by %s, held: ", by == SIGINT ? "SIGINT" : by == SIGHUP ? "SIGHUP" : "SIGTERM");
+  uint32_t number = say_held();
+  log_add("; not handed over: ");
+  names_say(&waiting);
+  log_add("; not known to be delivered: ");
+  names_say(&client.out.doubtful);
+  log_end();
   return number ? 1 : 0;
 }
 
 int main(int words, char **word) {
+  usage_if_asked(words, word, HELP);
   begin_streams();
   uint16_t port = begin(words > 0 ? word + 1 : word);
   begin_signals();

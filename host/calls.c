@@ -76,7 +76,7 @@ void play_numbers(const struct command *c) {
 
 void play_show(const struct command *c) {
   const uint64_t *channel = checked_channel();
-  uint8_t name[LONGEST_NAME];
+  uint8_t name[KLARVESIMO_LONGEST_NAME];
   (void)c;
   fputs("channel ", stdout);
   script_write(name, channel_name(channel, name));

@@ -4,13 +4,14 @@
 
 size_t channel_name(const uint64_t *channel, uint8_t *name) {
   uint64_t size = channel[KLARVESIMO_CHANNEL_SIZE];
-  size_t shown = size < LONGEST_NAME ? (size_t)size : LONGEST_NAME;
+  size_t shown = size < KLARVESIMO_LONGEST_NAME ? (size_t)size : KLARVESIMO_LONGEST_NAME;
   for (size_t i = 0; i < shown; i++) name[i] = (uint8_t)channel[KLARVESIMO_CHANNEL_NAME + i];
   return shown;
 }
 
 void channel_write_state(FILE *to, const uint64_t *channel) {
-  static const char *const words[] = {"idle", "speaking", "paused"};
+  static const char *const words[] = {
+      [KLARVESIMO_IDLE] = "idle", [KLARVESIMO_SPEAKING] = "speaking", [KLARVESIMO_PAUSED] = "paused"};
   uint64_t state = channel[KLARVESIMO_CHANNEL_STATE];
   if (state < sizeof words / sizeof *words)
     fputs(words[state], to);

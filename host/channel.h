@@ -8,8 +8,6 @@
 
 #include "../include/klarvesimo.h"
 
-enum { LONGEST_NAME = KLARVESIMO_CHANNEL - KLARVESIMO_CHANNEL_NAME };
-
 /* The name, as many bytes as the size says and there are: how many. Of each number the last eight bits are shown. */
 size_t channel_name(const uint64_t *channel, uint8_t *name);
 

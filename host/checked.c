@@ -6,8 +6,7 @@
 #include "lend.h"
 #include "message.h"
 
-enum { MALFORMED = 5, NO_REQUEST = 6, NO_ROOM = 7, NO_CAUSE = 9, NOT_SOUND = 21, CAUSES = 8, ALL = KLARVESIMO_CHANNEL * sizeof(uint64_t) };
-enum { LONGEST_OPENING = 31, LONGEST_MESSAGE = 16384, MOST_FIELDS = (KLARVESIMO_MOST - KLARVESIMO_HEAD) / 4 };
+enum { ALL = KLARVESIMO_CHANNEL * sizeof(uint64_t) };
 
 /* lent for as long as it is in use, and again at each opening */
 static uint64_t *channel;
@@ -23,13 +22,15 @@ int checked_written(uint32_t number, const uint8_t *out, uint64_t written, size_
 /* the stated length, as framing alone gives it, where the message was taken */
 static uint64_t consumed_by(uint32_t number, const uint8_t *bytes, size_t count) {
   uint64_t frame[KLARVESIMO_FRAME_NUMBERS] = {0};
-  if (number == 0 || number == MALFORMED || number == NO_REQUEST) klarvesimo_frame(bytes, count, frame, KLARVESIMO_FRAME_NUMBERS);
+  if (number == 0 || number == KLARVESIMO_MALFORMED_LINE || number == KLARVESIMO_NO_REQUEST)
+    klarvesimo_frame(bytes, count, frame, KLARVESIMO_FRAME_NUMBERS);
   return frame[KLARVESIMO_FRAME_LENGTH];
 }
 
 static int frame_fits(const uint64_t *frame, size_t count) {
   uint64_t opening = frame[KLARVESIMO_FRAME_OPENING], length = frame[KLARVESIMO_FRAME_LENGTH];
-  return opening <= LONGEST_OPENING && opening <= length && length <= LONGEST_MESSAGE && length <= count;
+  return opening <= KLARVESIMO_LONGEST_OPENING && opening <= length && length <= KLARVESIMO_LONGEST_MESSAGE &&
+         length <= count;
 }
 
 struct checked checked_frame(const uint8_t *from, size_t count, uint64_t *numbers) {
@@ -42,7 +43,8 @@ struct checked checked_frame(const uint8_t *from, size_t count, uint64_t *number
   memcpy(numbers, out, SIZE);
   out = lend(OUTPUT, SIZE - sizeof *out); /* a number short */
   uint32_t number = klarvesimo_frame(bytes, count, out, KLARVESIMO_FRAME_NUMBERS - 1);
-  c.holds &= number == (c.number ? c.number : NO_ROOM) && lend_untouched(out, SIZE - sizeof *out) && memcmp(bytes, from, count) == 0;
+  c.holds &= number == (c.number ? c.number : KLARVESIMO_NO_ROOM) && lend_untouched(out, SIZE - sizeof *out) &&
+             memcmp(bytes, from, count) == 0;
   return c;
 }
 
@@ -50,10 +52,14 @@ static int inside(const uint64_t *part, uint64_t size) { return part[0] <= size 
 
 /* no number leads out of the message or out of its range */
 static int numbers_fit(const uint64_t *out, uint64_t size) {
-  int fit = out[KLARVESIMO_KIND] >= REQUEST && out[KLARVESIMO_KIND] <= EVENT && out[KLARVESIMO_STATE] <= 3 && out[KLARVESIMO_STATUS] <= 999 &&
-            out[KLARVESIMO_ID] <= UINT32_MAX && out[KLARVESIMO_GOOD] <= 1 && inside(out + KLARVESIMO_NAME, size) && inside(out + KLARVESIMO_BODY, size);
-  for (uint64_t f = 0; f < out[KLARVESIMO_FIELDS]; f++)
-    fit &= inside(out + KLARVESIMO_HEAD + 4 * f, size) && inside(out + KLARVESIMO_HEAD + 4 * f + 2, size);
+  int fit = out[KLARVESIMO_KIND] >= KLARVESIMO_REQUEST && out[KLARVESIMO_KIND] <= KLARVESIMO_EVENT &&
+            out[KLARVESIMO_STATE] <= KLARVESIMO_COMPLETE && out[KLARVESIMO_STATUS] <= 999 &&
+            out[KLARVESIMO_ID] <= UINT32_MAX && out[KLARVESIMO_GOOD] <= 1 && inside(out + KLARVESIMO_NAME, size) &&
+            inside(out + KLARVESIMO_BODY, size);
+  for (uint64_t f = 0; f < out[KLARVESIMO_FIELDS]; f++) {
+    const uint64_t *field = out + KLARVESIMO_HEAD + KLARVESIMO_FIELD_NUMBERS * f;
+    fit &= inside(field + KLARVESIMO_FIELD_NAME, size) && inside(field + KLARVESIMO_FIELD_VALUE, size);
+  }
   return fit;
 }
 
@@ -64,8 +70,8 @@ static struct checked reads(const uint8_t *bytes, size_t count, size_t room, uin
   size_t written = 0;
   c.consumed = *consumed;
   if (c.number == 0) {
-    if (room < KLARVESIMO_HEAD || out[KLARVESIMO_FIELDS] > MOST_FIELDS) return c;
-    written = (size_t)(KLARVESIMO_HEAD + 4 * out[KLARVESIMO_FIELDS]);
+    if (room < KLARVESIMO_HEAD || out[KLARVESIMO_FIELDS] > KLARVESIMO_MOST_FIELDS) return c;
+    written = (size_t)(KLARVESIMO_HEAD + KLARVESIMO_FIELD_NUMBERS * out[KLARVESIMO_FIELDS]);
     if (written > room || !numbers_fit(out, c.consumed)) return c;
   }
   memcpy(numbers, out, written * sizeof *out);
@@ -73,14 +79,14 @@ static struct checked reads(const uint8_t *bytes, size_t count, size_t room, uin
   return c;
 }
 
-/* the same numbers from an output that is exactly as long as needed, and 7 from one that is a number short */
+/* the same numbers from an output that is exactly as long as needed, and a refusal from one that is a number short */
 static int reads_again(const uint8_t *bytes, size_t count, const uint64_t *first) {
   uint64_t again[KLARVESIMO_MOST];
-  size_t needed = (size_t)(KLARVESIMO_HEAD + 4 * first[KLARVESIMO_FIELDS]);
+  size_t needed = (size_t)(KLARVESIMO_HEAD + KLARVESIMO_FIELD_NUMBERS * first[KLARVESIMO_FIELDS]);
   struct checked c = reads(bytes, count, needed, again);
   if (!c.holds || c.number != 0 || memcmp(first, again, needed * sizeof *again) != 0) return 0;
   c = reads(bytes, count, needed - 1, again);
-  return c.holds && c.number == NO_ROOM;
+  return c.holds && c.number == KLARVESIMO_NO_ROOM;
 }
 
 struct checked checked_read(const uint8_t *from, size_t count, uint64_t *numbers) {
@@ -106,8 +112,8 @@ static int held_agrees(int sound) {
   uint64_t before[KLARVESIMO_CHANNEL], count = channel[KLARVESIMO_CHANNEL_COUNT];
   memcpy(before, channel, ALL);
   int agrees = sound ? count <= KLARVESIMO_MOST_HELD && held_gives(0, KLARVESIMO_MOST_HELD) && held_gives(0, (size_t)count) &&
-                           (count == 0 || held_gives(NO_ROOM, (size_t)count - 1))
-                     : held_gives(NOT_SOUND, KLARVESIMO_MOST_HELD) && held_gives(NOT_SOUND, 0);
+                           (count == 0 || held_gives(KLARVESIMO_NO_ROOM, (size_t)count - 1))
+                     : held_gives(KLARVESIMO_NOT_SOUND, KLARVESIMO_MOST_HELD) && held_gives(KLARVESIMO_NOT_SOUND, 0);
   return agrees && memcmp(before, channel, ALL) == 0;
 }
 
@@ -115,13 +121,14 @@ struct checked checked_held(size_t room) {
   uint64_t before[KLARVESIMO_CHANNEL], written;
   struct checked c = {0};
   memcpy(before, channel, ALL);
-  /* a cause above 7 is refused whatever the channel, but for one that is not sound */
-  uint32_t refused = klarvesimo_report(channel, CAUSES, NULL, 0, &written);
-  if (refused == NOT_SOUND)
-    c.number = NOT_SOUND;
+  /* what is no cause is refused whatever the channel, but for one that is not sound */
+  uint32_t refused = klarvesimo_report(channel, KLARVESIMO_CAUSES, NULL, 0, &written);
+  if (refused == KLARVESIMO_NOT_SOUND)
+    c.number = KLARVESIMO_NOT_SOUND;
   else if (channel[KLARVESIMO_CHANNEL_COUNT] > room)
-    c.number = NO_ROOM;
-  c.holds = (refused == NOT_SOUND || refused == NO_CAUSE) && held_gives(c.number, room) && memcmp(before, channel, ALL) == 0;
+    c.number = KLARVESIMO_NO_ROOM;
+  c.holds = (refused == KLARVESIMO_NOT_SOUND || refused == KLARVESIMO_NO_CAUSE) && held_gives(c.number, room) &&
+            memcmp(before, channel, ALL) == 0;
   return c;
 }
 
@@ -135,13 +142,14 @@ static int zero(size_t from, size_t to) {
 static int channel_agrees(uint32_t number, const uint64_t *before) {
   if (number) return memcmp(channel, before, ALL) == 0;
   uint64_t count = channel[KLARVESIMO_CHANNEL_COUNT], size = channel[KLARVESIMO_CHANNEL_SIZE];
-  return count <= KLARVESIMO_MOST_HELD && size <= LONGEST_NAME && zero(KLARVESIMO_CHANNEL_QUEUE + (size_t)count, KLARVESIMO_CHANNEL_NAME) &&
+  return count <= KLARVESIMO_MOST_HELD && size <= KLARVESIMO_LONGEST_NAME &&
+         zero(KLARVESIMO_CHANNEL_QUEUE + (size_t)count, KLARVESIMO_CHANNEL_NAME) &&
          zero(KLARVESIMO_CHANNEL_NAME + (size_t)size, KLARVESIMO_CHANNEL);
 }
 
 /* the message says that it is of this channel */
 static int names_channel(const uint8_t *bytes, const uint64_t *numbers) {
-  uint8_t name[LONGEST_NAME];
+  uint8_t name[KLARVESIMO_LONGEST_NAME];
   size_t size = channel_name(channel, name);
   const uint64_t *part = message_field(bytes, numbers, "Channel-Identifier");
   return part && part[1] == size && memcmp(bytes + part[0], name, size) == 0;
@@ -159,10 +167,11 @@ static int reads_back(const struct checked *c, uint64_t kind, uint64_t id) {
 static int handle_agrees(const struct checked *c, const uint8_t *bytes, size_t count, const uint64_t *before) {
   uint64_t request[KLARVESIMO_MOST], consumed;
   if (c->consumed > count || c->consumed != consumed_by(c->number, bytes, count) || !channel_agrees(c->number, before)) return 0;
-  if (c->number == 0 && (klarvesimo_read(bytes, count, request, KLARVESIMO_MOST, &consumed) != 0 || request[KLARVESIMO_KIND] != REQUEST ||
-                         !reads_back(c, RESPONSE, request[KLARVESIMO_ID])))
+  if (c->number == 0 && (klarvesimo_read(bytes, count, request, KLARVESIMO_MOST, &consumed) != 0 ||
+                         request[KLARVESIMO_KIND] != KLARVESIMO_REQUEST ||
+                         !reads_back(c, KLARVESIMO_RESPONSE, request[KLARVESIMO_ID])))
     return 0;
-  return held_agrees(c->number != NOT_SOUND);
+  return held_agrees(c->number != KLARVESIMO_NOT_SOUND);
 }
 
 struct checked checked_open(const uint8_t *from, size_t length) {
@@ -171,13 +180,14 @@ struct checked checked_open(const uint8_t *from, size_t length) {
   channel = lend(CHANNEL, ALL);
   struct checked c = {.number = klarvesimo_open(channel, name, length)};
   if (c.number == 0) expected[KLARVESIMO_CHANNEL_SIZE] = length;
-  for (size_t i = 0; c.number == 0 && i < length && i < LONGEST_NAME; i++) expected[KLARVESIMO_CHANNEL_NAME + i] = from[i];
+  for (size_t i = 0; c.number == 0 && i < length && i < KLARVESIMO_LONGEST_NAME; i++)
+    expected[KLARVESIMO_CHANNEL_NAME + i] = from[i];
   c.holds = memcmp(channel, expected, ALL) == 0 && memcmp(name, from, length) == 0 && held_agrees(c.number == 0);
   return c;
 }
 
 struct checked checked_handle(const uint8_t *from, size_t count, size_t room) {
-  uint64_t before[KLARVESIMO_CHANNEL], *counts = lend(COUNTS, 2 * sizeof *counts);
+  uint64_t before[KLARVESIMO_CHANNEL], *counts = lend(COUNTS, KLARVESIMO_COUNTS * sizeof *counts);
   const uint8_t *bytes = lend_copy(INPUT, from, count);
   uint8_t *out = lend(OUTPUT, room);
   memcpy(before, channel, ALL);
@@ -196,7 +206,8 @@ struct checked checked_report(uint32_t cause, size_t room) {
   struct checked c = {.number = klarvesimo_report(channel, cause, out, room, written), .out = out};
   if (!checked_written(c.number, out, *written, room)) return c;
   c.written = *written;
-  c.holds = channel_agrees(c.number, before) && (c.number != 0 || reads_back(&c, EVENT, before[KLARVESIMO_CHANNEL_QUEUE] / 2)) &&
-            held_agrees(c.number != NOT_SOUND);
+  c.holds = channel_agrees(c.number, before) &&
+            (c.number != 0 || reads_back(&c, KLARVESIMO_EVENT, before[KLARVESIMO_CHANNEL_QUEUE] / 2)) &&
+            held_agrees(c.number != KLARVESIMO_NOT_SOUND);
   return c;
 }

@@ -26,7 +26,7 @@ struct checked checked_handle(const uint8_t *bytes, size_t count, size_t room);
 struct checked checked_report(uint32_t cause, size_t room);
 struct checked checked_held(size_t room); /* no more than KLARVESIMO_MOST */
 
-/* The numbers on 0: KLARVESIMO_FRAME_NUMBERS of them, or KLARVESIMO_HEAD and four for each field. */
+/* The numbers on 0: KLARVESIMO_FRAME_NUMBERS of them; or KLARVESIMO_HEAD, and KLARVESIMO_FIELD_NUMBERS a field. */
 struct checked checked_frame(const uint8_t *bytes, size_t count, uint64_t *numbers);
 struct checked checked_read(const uint8_t *bytes, size_t count, uint64_t *numbers);
 

@@ -44,11 +44,10 @@ static void take_report(const struct script *s, struct command *c) {
   c->room = room_of(s, s->word[2]);
 }
 
-/* as KLARVESIMO_STATE numbers them */
 static uint32_t request_state(const struct script *s, const char *word) {
-  if (strcmp(word, "PENDING") == 0) return 1;
-  if (strcmp(word, "IN-PROGRESS") == 0) return 2;
-  if (strcmp(word, "COMPLETE") == 0) return 3;
+  if (strcmp(word, "PENDING") == 0) return KLARVESIMO_PENDING;
+  if (strcmp(word, "IN-PROGRESS") == 0) return KLARVESIMO_IN_PROGRESS;
+  if (strcmp(word, "COMPLETE") == 0) return KLARVESIMO_COMPLETE;
   script_unreadable(s, "no such request state");
   return 0;
 }
@@ -77,9 +76,9 @@ static void take_complete(const struct script *s, struct command *c) {
 }
 
 static uint64_t state_of(const struct script *s, const char *word) {
-  if (strcmp(word, "idle") == 0) return 0;
-  if (strcmp(word, "speaking") == 0) return 1;
-  if (strcmp(word, "paused") == 0) return 2;
+  if (strcmp(word, "idle") == 0) return KLARVESIMO_IDLE;
+  if (strcmp(word, "speaking") == 0) return KLARVESIMO_SPEAKING;
+  if (strcmp(word, "paused") == 0) return KLARVESIMO_PAUSED;
   return script_number(s, word, UINT64_MAX);
 }
 
@@ -108,7 +107,7 @@ static void take_channel(const struct script *s, struct command *c) {
   to[KLARVESIMO_CHANNEL_COUNT] = queue_of(s, s->word[4], to + KLARVESIMO_CHANNEL_QUEUE);
   if (s->words == 6) to[KLARVESIMO_CHANNEL_COUNT] = script_number(s, s->word[5], UINT64_MAX);
   to[KLARVESIMO_CHANNEL_SIZE] = size;
-  for (size_t i = 0; i < size && KLARVESIMO_CHANNEL_NAME + i < KLARVESIMO_CHANNEL; i++) to[KLARVESIMO_CHANNEL_NAME + i] = c->bytes[i];
+  for (size_t i = 0; i < size && i < KLARVESIMO_LONGEST_NAME; i++) to[KLARVESIMO_CHANNEL_NAME + i] = c->bytes[i];
 }
 
 /* number PLACE VALUE */

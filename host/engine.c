@@ -2,38 +2,64 @@
 #include "engine.h"
 
 #include <errno.h>
-#include <limits.h>
+#include <inttypes.h>
 #include <stdio.h>
 #include <string.h>
-#include <time.h>
 #include <unistd.h>
 
+#include "log.h"
+#include "now.h"
 #include "number.h"
 
-enum { SPEAKING = 1, NORMAL = 0 };
-
-int64_t engine_clock(void) {
-  struct timespec t;
-  clock_gettime(CLOCK_MONOTONIC, &t);
-  return (int64_t)t.tv_sec * 1000 + t.tv_nsec / 1000000;
+static void start(struct engine *e, uint64_t prompt) {
+  e->has = 1;
+  e->runs = 0;
+  e->prompt = prompt;
+  e->left = e->takes;
 }
 
-void engine_follow(struct engine *e, const uint64_t *channel, int64_t now) {
-  uint64_t active = channel[KLARVESIMO_CHANNEL_QUEUE] / 2;
-  int has = channel[KLARVESIMO_CHANNEL_COUNT] > 0, runs = channel[KLARVESIMO_CHANNEL_STATE] == SPEAKING;
-  if (e->runs) e->left -= now - e->since;
-  if (!e->has || active != e->prompt) e->left = e->takes; /* ids rise, so another prompt has another id */
-  e->has = has;
+static void stop(struct engine *e) {
+  log_line("prompt %" PRIu64 " stopped", e->prompt);
+  e->has = e->runs = 0;
+}
+
+static void run(struct engine *e, int runs) {
+  log_line("prompt %" PRIu64 " %s", e->prompt, runs ? "speaks" : "paused");
   e->runs = runs;
-  e->prompt = active;
+}
+
+/* Ids rise, so a prompt with the same id is the same prompt, however many calls were made since. */
+void engine_follow(struct engine *e, const uint64_t *channel, int64_t now) {
+  uint64_t held[KLARVESIMO_MOST_HELD], count;
+  int speaking = channel[KLARVESIMO_CHANNEL_STATE] == KLARVESIMO_SPEAKING;
+  klarvesimo_held(channel, held, KLARVESIMO_MOST_HELD, &count); /* refused: none */
+  if (e->runs) e->left -= now - e->since;
   e->since = now;
+  if (e->has && (count == 0 || held[0] != e->prompt)) stop(e);
+  int starts = !e->has && count > 0;
+  if (starts) start(e, held[0]);
+  if (e->has && (starts || e->runs != speaking)) run(e, speaking);
 }
 
 static int timed(const struct engine *e) { return e->takes != BY_LINES_ALONE && e->has && e->runs && !e->due; }
 
+/* a report of the prompt in hand */
 static void due(struct engine *e, uint32_t cause) {
   e->due = 1;
   e->cause = cause;
+  e->about = e->has;
+  e->reported = e->prompt;
+  e->said = 0;
+}
+
+int engine_late(const struct engine *e) { return e->about && !(e->has && e->prompt == e->reported); }
+
+void engine_forget(struct engine *e) { e->due = 0; }
+
+void engine_reported(struct engine *e) {
+  log_line("prompt %" PRIu64 " has ended, cause %" PRIu32, e->prompt, e->cause);
+  e->has = e->runs = 0;
+  engine_forget(e);
 }
 
 /* the line's end in the text, NULL where it has not come */
@@ -44,21 +70,30 @@ static void drop_line(struct engine *e, char *end) {
   memmove(e->text, end + 1, e->length);
 }
 
-/* `report CAUSE`, whose cause the library judges */
+/* The words behind `report `: the cause, which the library judges, and the prompt, if one is named. NULL, or what is
+ * wrong. */
+static const char *take_report(struct engine *e, char *words) {
+  uint64_t cause = 0, prompt = 0;
+  char *space = strchr(words, ' ');
+  if (space) *space = 0;
+  const char *wrong = number_read(words, UINT32_MAX, &cause);
+  if (!wrong && space) wrong = number_read(space + 1, UINT32_MAX, &prompt);
+  if (wrong) return wrong;
+  due(e, (uint32_t)cause);
+  if (space) e->about = 1, e->reported = prompt;
+  return NULL;
+}
+
 static void take_line(struct engine *e, char *end) {
   static const char word[] = "report ";
   const char *wrong = "no such command";
-  uint64_t cause = 0;
   e->line++;
   *end = 0;
   if (strlen(e->text) != (size_t)(end - e->text)) /* a byte 0 */
     wrong = "a byte that no line has";
   else if (strncmp(e->text, word, strlen(word)) == 0)
-    wrong = number_read(e->text + strlen(word), UINT32_MAX, &cause);
-  if (wrong)
-    fprintf(stderr, "board: standard input, line %lu: %s\n", e->line, wrong);
-  else
-    due(e, (uint32_t)cause);
+    wrong = take_report(e, e->text + strlen(word));
+  if (wrong) log_line("standard input, line %lu: %s", e->line, wrong);
 }
 
 /* Lines, until one is a report; what is left of a line that was too long is none. */
@@ -71,21 +106,16 @@ static void take_lines(struct engine *e) {
 
 int engine_due(struct engine *e, int64_t now) {
   take_lines(e);
-  if (timed(e) && now - e->since >= e->left) due(e, NORMAL);
+  if (timed(e) && now - e->since >= e->left) due(e, KLARVESIMO_CAUSE_NORMAL);
   return e->due;
 }
 
-int engine_wait(const struct engine *e, int64_t now) {
-  if (!timed(e)) return -1;
-  int64_t left = e->left - (now - e->since);
-  if (left < 0) return 0;
-  return left < INT_MAX ? (int)left : INT_MAX;
-}
+int engine_wait(const struct engine *e, int64_t now) { return timed(e) ? until_ms(e->since + e->left, now) : -1; }
 
 int engine_wants_lines(const struct engine *e) { return !e->ended && !e->due; }
 
 static void pass_over_long_line(struct engine *e) {
-  if (!e->skips) fprintf(stderr, "board: standard input, line %lu: a line that is too long\n", ++e->line);
+  if (!e->skips) log_line("standard input, line %lu: a line that is too long", ++e->line);
   e->skips = 1;
   e->length = 0;
 }
@@ -93,7 +123,8 @@ static void pass_over_long_line(struct engine *e) {
 void engine_read_lines(struct engine *e) {
   ssize_t count = read(STDIN_FILENO, e->text + e->length, sizeof e->text - e->length);
   if (count < 0 && (errno == EINTR || errno == EAGAIN)) return;
-  if (count < 0) perror("board: standard input");
+  if (count < 0) /* also where it is a terminal, and the board in the background */
+    log_line("standard input: %s; no line is read from now on", strerror(errno));
   if (count <= 0) {
     e->ended = 1;
     if (e->length > 0) e->text[e->length++] = '\n'; /* the last line need not have one */

@@ -17,7 +17,7 @@ enum { MOST_INPUT = 20000, MOST_LENT = 40000, OUTCOMES = 1 << 14 };
 /* set by the answers that an input has: which call, its number, the status, and the channel after it */
 __attribute__((section("__libfuzzer_extra_counters"))) static volatile uint8_t outcomes[OUTCOMES];
 
-static uint8_t bytes[MOST_INPUT + INPUT_LONGEST_OPENING];
+static uint8_t bytes[MOST_INPUT + KLARVESIMO_LONGEST_OPENING];
 static uint64_t numbers[KLARVESIMO_MOST];
 
 static uint64_t mixed(uint64_t sum, uint64_t value) { return (sum ^ value) * 0x100000001b3 ^ sum >> 29; }
@@ -63,7 +63,8 @@ static uint64_t cut(uint64_t number, uint64_t most) { return number < most ? num
 static void note(const struct command *c, const struct checked *call) {
   const uint64_t *channel = checked_channel();
   uint64_t sum = mixed(mixed(mixed(0, c->verb), call->number), status_of(call));
-  sum = mixed(mixed(sum, cut(channel[KLARVESIMO_CHANNEL_STATE], 3)), cut(channel[KLARVESIMO_CHANNEL_COUNT], KLARVESIMO_MOST_HELD + 1));
+  sum = mixed(sum, cut(channel[KLARVESIMO_CHANNEL_STATE], KLARVESIMO_PAUSED + 1));
+  sum = mixed(sum, cut(channel[KLARVESIMO_CHANNEL_COUNT], KLARVESIMO_MOST_HELD + 1));
   outcomes[(sum ^ sum >> 32) % OUTCOMES] = 1;
 }
 

@@ -34,13 +34,13 @@ static size_t opening_for(size_t rest, char *opening) {
   size_t length = 0;
   for (size_t stated = rest; length == 0 || stated != rest + length;) {
     stated = rest + length;
-    length = (size_t)snprintf(opening, INPUT_LONGEST_OPENING + 1, "MRCP/2.0 %zu ", stated);
+    length = (size_t)snprintf(opening, KLARVESIMO_LONGEST_OPENING + 1, "MRCP/2.0 %zu ", stated);
   }
   return length;
 }
 
 static void next_bytes(struct input *in, int fitted, struct command *c) {
-  char opening[INPUT_LONGEST_OPENING + 1];
+  char opening[KLARVESIMO_LONGEST_OPENING + 1];
   uint64_t stated = next_number(in);
   size_t count = stated < in->left ? (size_t)stated : in->left, front = fitted ? opening_for(count, opening) : 0;
   memcpy(c->bytes, opening, front);
@@ -71,8 +71,8 @@ static void put_number(FILE *to, uint64_t number) {
 
 /* how long the opening is where it is the one that fits; else 0 */
 static size_t fitted(const struct command *c) {
-  char opening[INPUT_LONGEST_OPENING + 1];
-  for (size_t length = 1; length <= INPUT_LONGEST_OPENING && length <= c->count; length++)
+  char opening[KLARVESIMO_LONGEST_OPENING + 1];
+  for (size_t length = 1; length <= KLARVESIMO_LONGEST_OPENING && length <= c->count; length++)
     if (opening_for(c->count - length, opening) == length && memcmp(opening, c->bytes, length) == 0) return length;
   return 0;
 }

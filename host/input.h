@@ -15,14 +15,14 @@
 
 #include "command.h"
 
-enum { INPUT_MOST_ROOM = 4096, INPUT_LONGEST_OPENING = 31 };
+enum { INPUT_MOST_ROOM = 4096 };
 
 struct input {
   const uint8_t *at;
   size_t left;
 };
 
-/* The next command; 0 at the end. Its bytes have room for all that is left, and INPUT_LONGEST_OPENING. */
+/* The next command; 0 at the end. Its bytes have room for all that is left, and KLARVESIMO_LONGEST_OPENING. */
 int input_next(struct input *in, struct command *c);
 
 /* Writes a command so that it is read again, but for a room that is cut; nothing where such a list does not have it. */

@@ -7,8 +7,12 @@
 #include <string.h>
 
 #include "input.h"
+#include "usage.h"
 
-enum { ENOUGH = 3000, USAGE = 2 }; /* bytes of a seed: a full queue and what follows; short ones are tried more often */
+/* bytes of a seed: a full queue and what follows; short ones are tried more often */
+enum { ENOUGH = 3000, BAD_WORDS = 2 };
+
+static const char USAGE[] = "usage: inputs seeds DIRECTORY [SCRIPT]\n       inputs script FILE...\n";
 
 static void cannot(const char *path) {
   fprintf(stderr, "inputs: %s: %s\n", path, strerror(errno));
@@ -64,7 +68,7 @@ static void write_line(const struct command *c) {
 }
 
 static void write_script(const char *path) {
-  static uint8_t bytes[MOST_BYTES - INPUT_LONGEST_OPENING];
+  static uint8_t bytes[MOST_BYTES - KLARVESIMO_LONGEST_OPENING];
   struct command c = command_make();
   FILE *from = fopen(path, "rb");
   if (!from) cannot(path);
@@ -77,10 +81,11 @@ static void write_script(const char *path) {
 }
 
 int main(int words, char **word) {
+  usage_if_asked(words, word, USAGE);
   if (words >= 3 && strcmp(word[1], "seeds") == 0) return make_seeds(word[2], script_open("inputs", words - 3, word + 3));
   if (words < 2 || strcmp(word[1], "script") != 0) {
-    fputs("usage: inputs seeds DIRECTORY [SCRIPT]\n       inputs script FILE...\n", stderr);
-    return USAGE;
+    fputs(USAGE, stderr);
+    return BAD_WORDS;
   }
   for (int i = 2; i < words; i++) write_script(word[i]);
   return fflush(stdout) == 0 && !ferror(stdout) ? 0 : 1;

@@ -30,11 +30,12 @@ static struct entry closed(const uint8_t *bytes, const uint64_t *value) {
 struct entry entry_of_message(const uint8_t *bytes, size_t count, uint32_t number, const uint8_t *written, size_t size) {
   uint64_t in[KLARVESIMO_MOST], out[KLARVESIMO_MOST], consumed;
   if (number != 0) return NOTHING;
-  if (klarvesimo_read(bytes, count, in, KLARVESIMO_MOST, &consumed) != 0 || in[KLARVESIMO_KIND] != REQUEST) return UNREADABLE;
+  if (klarvesimo_read(bytes, count, in, KLARVESIMO_MOST, &consumed) != 0) return UNREADABLE;
+  if (in[KLARVESIMO_KIND] != KLARVESIMO_REQUEST) return UNREADABLE;
   int speaks = message_is(bytes, in, "SPEAK");
   if (!speaks && !message_is(bytes, in, "STOP") && !message_is(bytes, in, "BARGE-IN-OCCURRED")) return NOTHING;
   if (klarvesimo_read(written, size, out, KLARVESIMO_MOST, &consumed) != 0 || consumed != size) return UNREADABLE;
-  if (out[KLARVESIMO_KIND] != RESPONSE || !out[KLARVESIMO_GOOD]) return UNREADABLE;
+  if (out[KLARVESIMO_KIND] != KLARVESIMO_RESPONSE || !out[KLARVESIMO_GOOD]) return UNREADABLE;
   if (out[KLARVESIMO_STATUS] != 200 && out[KLARVESIMO_STATUS] != 201) return NOTHING;
   if (speaks) return (struct entry){.kind = ENTRY_ACCEPTED, .ids = {(uint32_t)in[KLARVESIMO_ID]}, .count = 1};
   const uint64_t *list = message_field(written, out, "Active-Request-Id-List");
@@ -47,7 +48,7 @@ struct entry entry_of_report(uint32_t number, const uint8_t *written, size_t siz
   if (number != 0) return NOTHING;
   for (size_t at = 0; at < size; at += (size_t)consumed) {
     if (klarvesimo_read(written + at, size - at, out, KLARVESIMO_MOST, &consumed) != 0) return UNREADABLE;
-    if (out[KLARVESIMO_KIND] != EVENT || e.count == KLARVESIMO_MOST_HELD) return UNREADABLE;
+    if (out[KLARVESIMO_KIND] != KLARVESIMO_EVENT || e.count == KLARVESIMO_MOST_HELD) return UNREADABLE;
     e.ids[e.count++] = (uint32_t)out[KLARVESIMO_ID];
   }
   return e;

@@ -6,8 +6,6 @@
 
 #include "../include/klarvesimo.h"
 
-enum { REQUEST = 1, RESPONSE, EVENT };
-
 /* Whether its method or event has this name. */
 int message_is(const uint8_t *bytes, const uint64_t *numbers, const char *name);
 

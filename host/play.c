@@ -8,6 +8,7 @@
 #include "calls.h"
 #include "checked.h"
 #include "lend.h"
+#include "usage.h"
 
 static void play_frame(const struct command *c) {
   uint64_t numbers[KLARVESIMO_FRAME_NUMBERS];
@@ -19,22 +20,25 @@ static void play_frame(const struct command *c) {
 static void write_part(const uint8_t *bytes, const uint64_t *place) { script_write(bytes + place[0], (size_t)place[1]); }
 
 static void write_start(const uint8_t *bytes, const uint64_t *out) {
-  static const char *const kinds[] = {"", "request", "response", "event"};
-  static const char *const states[] = {"", " PENDING", " IN-PROGRESS", " COMPLETE"};
+  static const char *const kinds[] = {
+      [KLARVESIMO_REQUEST] = "request", [KLARVESIMO_RESPONSE] = "response", [KLARVESIMO_EVENT] = "event"};
+  static const char *const states[] = {"", [KLARVESIMO_PENDING] = " PENDING", [KLARVESIMO_IN_PROGRESS] = " IN-PROGRESS",
+                                       [KLARVESIMO_COMPLETE] = " COMPLETE"};
   printf("%s %" PRIu64 " %" PRIu64, kinds[out[KLARVESIMO_KIND]], out[KLARVESIMO_MAJOR], out[KLARVESIMO_MINOR]);
-  if (out[KLARVESIMO_KIND] != 2) printf(" %.*s", (int)out[KLARVESIMO_NAME_LENGTH], (const char *)bytes + out[KLARVESIMO_NAME]);
+  int responds = out[KLARVESIMO_KIND] == KLARVESIMO_RESPONSE;
+  if (!responds) printf(" %.*s", (int)out[KLARVESIMO_NAME_LENGTH], (const char *)bytes + out[KLARVESIMO_NAME]);
   printf(" %" PRIu64, out[KLARVESIMO_ID]);
-  if (out[KLARVESIMO_KIND] == 2) printf(" %03" PRIu64, out[KLARVESIMO_STATUS]);
+  if (responds) printf(" %03" PRIu64, out[KLARVESIMO_STATUS]);
   puts(states[out[KLARVESIMO_STATE]]);
 }
 
 static void write_fields(const uint8_t *bytes, const uint64_t *out) {
   for (uint64_t f = 0; f < out[KLARVESIMO_FIELDS]; f++) {
-    const uint64_t *field = out + KLARVESIMO_HEAD + 4 * f;
+    const uint64_t *field = out + KLARVESIMO_HEAD + KLARVESIMO_FIELD_NUMBERS * f;
     fputs("field ", stdout);
-    write_part(bytes, field);
+    write_part(bytes, field + KLARVESIMO_FIELD_NAME);
     putchar(' ');
-    write_part(bytes, field + 2);
+    write_part(bytes, field + KLARVESIMO_FIELD_VALUE);
     putchar('\n');
   }
   fputs("body ", stdout);
@@ -67,6 +71,7 @@ static void (*const plays[])(const struct command *c) = {
 };
 
 int main(int words, char **word) {
+  usage_if_asked(words, word, "usage: play [--front] [FILE]\n");
   int front = words > 1 && strcmp(word[1], "--front") == 0;
   struct script s = script_open("play", words - 1 - front, word + 1 + front);
   struct command c = command_make();

@@ -1,15 +1,20 @@
 #include "readable.h"
 
-void write_readable(FILE *to, const uint8_t *bytes, size_t count) {
+#include "../include/klarvesimo.h"
+
+const char *readable(uint8_t byte) {
   static const char *const escaped[] = {['\t'] = "\\t", ['\n'] = "\\n", ['\r'] = "\\r"};
-  for (size_t i = 0; i < count; i++) {
-    if (bytes[i] >= ' ' && bytes[i] <= '~')
-      fputc(bytes[i], to);
-    else if (bytes[i] < sizeof escaped / sizeof *escaped && escaped[bytes[i]])
-      fputs(escaped[bytes[i]], to);
-    else
-      fprintf(to, "\\x%02x", bytes[i]);
-  }
+  static char text[sizeof "\\xff"];
+  if (byte < sizeof escaped / sizeof *escaped && escaped[byte]) return escaped[byte];
+  if (byte >= ' ' && byte <= '~')
+    text[0] = (char)byte, text[1] = 0;
+  else
+    snprintf(text, sizeof text, "\\x%02x", byte);
+  return text;
+}
+
+void write_readable(FILE *to, const uint8_t *bytes, size_t count) {
+  for (size_t i = 0; i < count; i++) fputs(readable(bytes[i]), to);
 }
 
 /* where the first CRLF begins, or all of them */
@@ -36,17 +41,17 @@ void write_arrow(const char *arrow, const uint8_t *bytes, size_t count) {
 
 const char *refusal_meaning(uint32_t number) {
   static const char *const meanings[] = {
-      [1] = "more bytes needed",
-      [2] = "the bytes can't begin a message",
-      [3] = "stated length above 16,384",
-      [4] = "stated length below the opening's own length",
-      [5] = "framed, start line malformed",
-      [6] = "framed, a response or event, no request",
-      [7] = "the exact answer is longer than the lent output",
-      [8] = "engine report while nothing is speaking (idle or paused)",
-      [9] = "engine cause above 7",
-      [10] = "channel name malformed at opening",
-      [21] = "the channel handed in is not sound",
+      [KLARVESIMO_MORE_BYTES] = "more bytes needed",
+      [KLARVESIMO_NO_MESSAGE] = "the bytes can't begin a message",
+      [KLARVESIMO_TOO_LONG] = "stated length above 16,384",
+      [KLARVESIMO_TOO_SHORT] = "stated length below the opening's own length",
+      [KLARVESIMO_MALFORMED_LINE] = "framed, start line malformed",
+      [KLARVESIMO_NO_REQUEST] = "framed, a response or event, no request",
+      [KLARVESIMO_NO_ROOM] = "the exact answer is longer than the lent output",
+      [KLARVESIMO_NOT_SPEAKING] = "engine report while nothing is speaking (idle or paused)",
+      [KLARVESIMO_NO_CAUSE] = "engine cause above 7",
+      [KLARVESIMO_MALFORMED_NAME] = "channel name malformed at opening",
+      [KLARVESIMO_NOT_SOUND] = "the channel handed in is not sound",
   };
   return number < sizeof meanings / sizeof *meanings && meanings[number] ? meanings[number] : "no such number";
 }

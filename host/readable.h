@@ -6,7 +6,10 @@
 #include <stdint.h>
 #include <stdio.h>
 
-/* What cannot be printed is escaped. */
+/* A byte as text, until the next call: what cannot be printed is escaped. */
+const char *readable(uint8_t byte);
+
+/* Bytes as such text. */
 void write_readable(FILE *to, const uint8_t *bytes, size_t count);
 
 /* The bytes after an arrow, on standard output, CRLF as line ends, each line indented. */

@@ -8,13 +8,14 @@
 
 #include "channel.h"
 #include "command.h"
-#include "fates.h"
 #include "ledger.h"
 #include "message.h"
+#include "prompts.h"
 #include "readable.h"
+#include "usage.h"
 #include "writing.h"
 
-enum { NO_ROOM = 7, OUT_OF_BALANCE = 3, FATE = 80 };
+enum { OUT_OF_BALANCE = 3, LONGEST = 80 };
 
 static struct script script;
 static uint64_t channel[KLARVESIMO_CHANNEL];
@@ -25,7 +26,7 @@ static int checked = 1; /* not from a line that sets the channel to the next `op
 static void write_refused(uint32_t number) { printf("   refused %" PRIu32 ": %s\n\n", number, refusal_meaning(number)); }
 
 static void write_channel(FILE *to) {
-  uint8_t name[LONGEST_NAME];
+  uint8_t name[KLARVESIMO_LONGEST_NAME];
   fputs("channel `", to);
   write_readable(to, name, channel_name(channel, name));
   fputs("` ", to);
@@ -50,7 +51,7 @@ static FILE *title_begin(void) {
 
 static void title_end(FILE *to) {
   fclose(to);
-  fates_chapter(title);
+  prompts_chapter(title);
 }
 
 static void tell_frame(const struct command *c) {
@@ -64,7 +65,8 @@ static void tell_frame(const struct command *c) {
 }
 
 static void tell_read(const struct command *c) {
-  static const char *const kinds[] = {"", "a request", "a response", "an event"};
+  static const char *const kinds[] = {
+      [KLARVESIMO_REQUEST] = "a request", [KLARVESIMO_RESPONSE] = "a response", [KLARVESIMO_EVENT] = "an event"};
   uint64_t numbers[KLARVESIMO_MOST], consumed;
   write_arrow("read:", c->bytes, c->count);
   uint32_t number = klarvesimo_read(c->bytes, c->count, numbers, KLARVESIMO_MOST, &consumed);
@@ -105,8 +107,8 @@ static void write_answer(uint32_t number, uint64_t written, size_t room) {
   if (written > room) script_fail(&script, OUT_OF_BALANCE, "more bytes are said to be written than were lent");
   if (number == 0) /* it ends with its own empty line */
     write_arrow("<-", out, (size_t)written);
-  else if (number == NO_ROOM)
-    printf("   refused %d: %s of %zu\n\n", NO_ROOM, refusal_meaning(NO_ROOM), room);
+  else if (number == KLARVESIMO_NO_ROOM)
+    printf("   refused %" PRIu32 ": %s of %zu\n\n", number, refusal_meaning(number), room);
   else
     write_refused(number);
 }
@@ -114,31 +116,33 @@ static void write_answer(uint32_t number, uint64_t written, size_t room) {
 /* why a SPEAK was not accepted: the status written, or the refusal */
 static void note_not_accepted(uint32_t id, uint32_t number, size_t written) {
   uint64_t answer[KLARVESIMO_MOST], consumed;
-  char fate[FATE] = "not accepted, answered with something else";
+  char became[LONGEST] = "not accepted, answered with something else";
   if (number)
-    snprintf(fate, sizeof fate, "not accepted, refused %" PRIu32, number);
-  else if (klarvesimo_read(out, written, answer, KLARVESIMO_MOST, &consumed) == 0 && answer[KLARVESIMO_KIND] == RESPONSE)
-    snprintf(fate, sizeof fate, "not accepted, %" PRIu64, answer[KLARVESIMO_STATUS]);
-  fates_add(id, fate);
+    snprintf(became, sizeof became, "not accepted, refused %" PRIu32, number);
+  else if (klarvesimo_read(out, written, answer, KLARVESIMO_MOST, &consumed) == 0 &&
+           answer[KLARVESIMO_KIND] == KLARVESIMO_RESPONSE)
+    snprintf(became, sizeof became, "not accepted, %" PRIu64, answer[KLARVESIMO_STATUS]);
+  prompts_add(id, became);
 }
 
 /* what a message from the client tells of prompts */
 static void note_message(const struct command *c, uint32_t number, size_t written, const struct entry *e) {
   uint64_t in[KLARVESIMO_MOST], consumed;
-  char fate[FATE];
-  if (klarvesimo_read(c->bytes, c->count, in, KLARVESIMO_MOST, &consumed) != 0 || in[KLARVESIMO_KIND] != REQUEST) return;
+  char became[LONGEST];
+  if (klarvesimo_read(c->bytes, c->count, in, KLARVESIMO_MOST, &consumed) != 0) return;
+  if (in[KLARVESIMO_KIND] != KLARVESIMO_REQUEST) return;
   const char *method = (const char *)c->bytes + in[KLARVESIMO_NAME];
-  snprintf(fate, sizeof fate, "stopped by %.*s %" PRIu64, (int)in[KLARVESIMO_NAME_LENGTH], method, in[KLARVESIMO_ID]);
+  snprintf(became, sizeof became, "stopped by %.*s %" PRIu64, (int)in[KLARVESIMO_NAME_LENGTH], method, in[KLARVESIMO_ID]);
   if (e->kind == ENTRY_ACCEPTED)
-    fates_accepted(e->ids[0]);
+    prompts_accepted(e->ids[0]);
   else if (e->kind == ENTRY_CLOSED)
-    fates_close(e->ids, e->count, fate);
+    prompts_close(e->ids, e->count, became);
   else if (message_is(c->bytes, in, "SPEAK"))
     note_not_accepted((uint32_t)in[KLARVESIMO_ID], number, written);
 }
 
 static void tell_message(const struct command *c) {
-  uint64_t frame[KLARVESIMO_FRAME_NUMBERS], counts[2];
+  uint64_t frame[KLARVESIMO_FRAME_NUMBERS], counts[KLARVESIMO_COUNTS];
   int framed = klarvesimo_frame(c->bytes, c->count, frame, KLARVESIMO_FRAME_NUMBERS) == 0;
   size_t length = framed ? (size_t)frame[KLARVESIMO_FRAME_LENGTH] : c->count;
   write_arrow("->", c->bytes, length);
@@ -154,19 +158,27 @@ static void tell_message(const struct command *c) {
 /* the cause that the event names */
 static void note_report(size_t written, const struct entry *e) {
   uint64_t event[KLARVESIMO_MOST], consumed;
-  char fate[FATE] = "spoken, no cause";
+  char became[LONGEST] = "spoken, no cause";
   if (e->kind != ENTRY_CLOSED) return;
   int read = klarvesimo_read(out, written, event, KLARVESIMO_MOST, &consumed) == 0;
   const uint64_t *cause = read ? message_field(out, event, "Completion-Cause") : NULL;
-  if (cause) snprintf(fate, sizeof fate, "spoken, %.*s", (int)cause[1], (const char *)out + cause[0]);
-  fates_close(e->ids, e->count, fate);
+  if (cause) snprintf(became, sizeof became, "spoken, %.*s", (int)cause[1], (const char *)out + cause[0]);
+  prompts_close(e->ids, e->count, became);
 }
 
 static void tell_report(const struct command *c) {
-  static const char *const causes[] = {"normal", "barge-in",             "parse-failure",        "uri-failure",
-                                       "error",  "language-unsupported", "lexicon-load-failure", "cancelled"};
+  static const char *const causes[KLARVESIMO_CAUSES] = {
+      [KLARVESIMO_CAUSE_NORMAL] = "normal",
+      [KLARVESIMO_CAUSE_BARGE_IN] = "barge-in",
+      [KLARVESIMO_CAUSE_PARSE_FAILURE] = "parse-failure",
+      [KLARVESIMO_CAUSE_URI_FAILURE] = "uri-failure",
+      [KLARVESIMO_CAUSE_ERROR] = "error",
+      [KLARVESIMO_CAUSE_LANGUAGE_UNSUPPORTED] = "language-unsupported",
+      [KLARVESIMO_CAUSE_LEXICON_LOAD_FAILURE] = "lexicon-load-failure",
+      [KLARVESIMO_CAUSE_CANCELLED] = "cancelled",
+  };
   uint64_t written;
-  const char *word = c->cause < sizeof causes / sizeof *causes ? causes[c->cause] : "no such cause";
+  const char *word = c->cause < KLARVESIMO_CAUSES ? causes[c->cause] : "no such cause";
   printf("** the engine reports %03" PRIu32 " %s\n", c->cause, word);
   uint32_t number = klarvesimo_report(channel, c->cause, out, c->room, &written);
   write_answer(number, written, c->room);
@@ -239,12 +251,13 @@ static void (*const tells[])(const struct command *c) = {
 };
 
 int main(int words, char **word) {
+  usage_if_asked(words, word, "usage: tell [FILE]\n");
   script = script_open("tell", words - 1, word + 1);
   struct command c = command_make();
   FILE *to = title_begin();
   fputs("before any opening", to);
   title_end(to);
   while (command_next(&script, &c)) tells[c.verb](&c);
-  fates_write();
+  prompts_write();
   return script_end(&script);
 }

@@ -1,7 +1,8 @@
 /* The writers of one message, outside any channel: for comparing and counting, not part of the product's interface.
  *
- * Each returns 0 with the message at the front of `out` and its size in `written`; or, with nothing written and `written` 0, 7 where it is longer than
- * `room`, and 9 where there is no such state (1 PENDING, 2 IN-PROGRESS, 3 COMPLETE) or no such cause (0 to 7). */
+ * Each returns 0 with the message at the front of `out` and its size in `written`; or, with nothing written and
+ * `written` 0, KLARVESIMO_NO_ROOM where it is longer than `room`, and KLARVESIMO_NO_CAUSE where klarvesimo.h has no
+ * such request state, or no such cause. */
 #ifndef WRITING_H
 #define WRITING_H
 

@@ -1,36 +1,41 @@
 /* Klarvesimo: the server end of one MRCPv2 channel for a speech synthesizer (RFC 6787), proved for all inputs.
  *
- * Each call hands over numbers and buffers and gets numbers back. The channel is an array that the caller keeps; else nothing is kept
- * between calls, nothing is allocated, and no byte outside what is lent is read or written. Every call returns 0, or the number of a refusal:
+ * Each call hands over numbers and buffers and gets numbers back. The channel is an array that the caller keeps; else
+ * nothing is kept between calls, nothing is allocated, and no byte outside what is lent is read or written. Every call
+ * returns 0, or the number of a refusal: their names come first below.
  *
- *    1  more bytes are needed                                  7  the exact answer is longer than the lent output
- *    2  the bytes can't begin a message                        8  an engine report while nothing is speaking (idle or paused)
- *    3  the stated length is above 16,384                      9  an engine cause above 7
- *    4  the stated length is below the opening's own length   10  the channel name is malformed
- *    5  framed, but the start line is malformed               21  the channel handed in is not sound
- *    6  framed, but a response or an event, no request
- *
- * Where two hold at once, 21 comes before all others, 1 to 6 before 7, 9 before 8, and 8 before 7. A refused call leaves the lent output and, but
- * for klarvesimo_open, the channel as they were; the counts that it sets say what was consumed, which is the stated length after 5 and 6 and
- * else 0, and that nothing was written. After 2, 3 or 4 the same bytes give the same number again, whatever follows them: close the connection.
- *
- * A pointer must be valid for the count beside it; where the count is 0 it is not followed. Lent buffers must not overlap.
+ * A pointer must be valid for the count beside it; where the count is 0 it is not followed. Lent buffers must not
+ * overlap.
  *
  * A conversation, with `lent` bytes of the client's at `bytes`:
  *
- *    uint64_t channel[KLARVESIMO_CHANNEL], counts[2], written, ids[KLARVESIMO_MOST_HELD], held;
+ *    uint64_t channel[KLARVESIMO_CHANNEL], counts[KLARVESIMO_COUNTS], written, ids[KLARVESIMO_MOST_HELD], held;
  *    uint8_t out[KLARVESIMO_LONGEST_ANSWER];
- *    if (klarvesimo_open(channel, name, length) != 0) return;                     // 10: no such channel can be
- *    do {                                                                         // each message that has come whole
+ *    if (klarvesimo_open(channel, name, length) != 0) return;            // KLARVESIMO_MALFORMED_NAME
+ *    do {                                                                // each message that has come whole
  *      number = klarvesimo_handle(channel, bytes, lent, out, sizeof out, counts);
- *      send_to_client(out, counts[KLARVESIMO_WRITTEN]);                           // nothing where it was refused
+ *      send_to_client(out, counts[KLARVESIMO_WRITTEN]);                  // nothing where it was refused
  *      bytes += counts[KLARVESIMO_CONSUMED], lent -= counts[KLARVESIMO_CONSUMED];
  *    } while (counts[KLARVESIMO_CONSUMED] > 0);
- *    if (number != 1) close_connection();                                         // 2, 3, 4; after 1 wait for more bytes
- *    if (engine_has_ended && klarvesimo_report(channel, 0, out, sizeof out, &written) == 0) send_to_client(out, written);
- *    if (klarvesimo_held(channel, ids, KLARVESIMO_MOST_HELD, &held) == 0)         // the prompts that are speaking or waiting
+ *    if (number != KLARVESIMO_MORE_BYTES) close_connection();            // else wait for them
+ *    if (engine_has_ended &&
+ *        klarvesimo_report(channel, KLARVESIMO_CAUSE_NORMAL, out, sizeof out, &written) == 0)
+ *      send_to_client(out, written);
+ *    if (klarvesimo_held(channel, ids, KLARVESIMO_MOST_HELD, &held) == 0)  // the prompts that are speaking or waiting
  *      for (uint64_t i = 0; i < held; i++) show_prompt(ids[i]);
- */
+ *
+ * What the library needs:
+ *
+ *  - x86-64 Linux, today: the archive holds machine code for that alone, called as the System V ABI says. It uses the
+ *    SSE2 registers, which every x86-64 has;
+ *  - memcpy and memset: the archive leaves no other name undefined;
+ *  - a stack that is aligned to 16 bytes at each call, as that ABI says. C compilers see to it; assembly, and whoever
+ *    sets up a thread's stack, must;
+ *  - at most 4 KB of stack: klarvesimo_handle takes 2,712 bytes at most, whatever is lent, and the others less; what
+ *    memcpy and memset take for themselves comes on top of that;
+ *  - the red zone of that ABI: up to 128 bytes below the stack pointer are in use, so what interrupts a call and runs
+ *    on its stack must leave them as they are;
+ *  - no heap, and no memory of its own: nothing in the archive can be written. */
 #ifndef KLARVESIMO_H
 #define KLARVESIMO_H
 
@@ -40,6 +45,42 @@
 #ifdef __cplusplus
 extern "C" {
 #endif
+
+/* The version of this header, and of the library that is installed with it. */
+#define KLARVESIMO_VERSION "0.1.0"
+#define KLARVESIMO_VERSION_MAJOR 0
+#define KLARVESIMO_VERSION_MINOR 1
+#define KLARVESIMO_VERSION_PATCH 0
+
+/* What a call returns.
+ *
+ * Where two hold at once, 21 comes before all others, 1 to 6 before 7, 9 before 8, and 8 before 7. A refused call
+ * leaves the lent output and, but for klarvesimo_open, the channel as they were; the counts that it sets say what was
+ * consumed, which is the stated length after 5 and 6 and else 0, and that nothing was written. After 2, 3 or 4 the same
+ * bytes give the same number again, whatever follows them: close the connection. */
+enum {
+  KLARVESIMO_HANDLED = 0,         /* no refusal */
+  KLARVESIMO_MORE_BYTES = 1,      /* more bytes are needed */
+  KLARVESIMO_NO_MESSAGE = 2,      /* the bytes can't begin a message */
+  KLARVESIMO_TOO_LONG = 3,        /* the stated length is above 16,384 */
+  KLARVESIMO_TOO_SHORT = 4,       /* the stated length is below the opening's own length */
+  KLARVESIMO_MALFORMED_LINE = 5,  /* framed, but the start line is malformed */
+  KLARVESIMO_NO_REQUEST = 6,      /* framed, but a response or an event, no request */
+  KLARVESIMO_NO_ROOM = 7,         /* the exact answer is longer than the lent output */
+  KLARVESIMO_NOT_SPEAKING = 8,    /* an engine report while nothing is speaking (idle or paused) */
+  KLARVESIMO_NO_CAUSE = 9,        /* an engine cause above 7 */
+  KLARVESIMO_MALFORMED_NAME = 10, /* the channel name is malformed */
+  KLARVESIMO_NOT_SOUND = 21       /* the channel handed in is not sound */
+};
+
+/* How long things are at most, and how many. */
+enum {
+  KLARVESIMO_LONGEST_OPENING = 31,
+  KLARVESIMO_LONGEST_MESSAGE = 16384,
+  KLARVESIMO_LONGEST_ANSWER = 305, /* a response or an event of the library's own */
+  KLARVESIMO_LONGEST_NAME = 44,    /* a channel's */
+  KLARVESIMO_MOST_HELD = 16        /* SPEAKs outstanding */
+};
 
 /* Where does the message at the front of `bytes` end? It looks at 31 bytes at most. On 0 these numbers are in out: */
 enum {
@@ -52,27 +93,29 @@ enum {
 /* 0, 1 to 4, or 7. */
 uint32_t klarvesimo_frame(const uint8_t *bytes, size_t count, uint64_t *out, size_t room);
 
-/* What does the message at the front of `bytes` say? Requests, responses and events alike. `consumed` gets the stated length on 0
- * and 5, else 0. On 0 these numbers are in out; a place is the index of a byte of `bytes`, inside the message: */
+/* What does the message at the front of `bytes` say? Requests, responses and events alike. `consumed` gets the stated
+ * length on 0 and 5, else 0. On 0 these numbers are in out; a place is the index of a byte of `bytes`, inside the
+ * message: */
 enum {
-  KLARVESIMO_KIND,         /* 1 request, 2 response, 3 event */
+  KLARVESIMO_KIND,         /* KLARVESIMO_REQUEST, KLARVESIMO_RESPONSE or KLARVESIMO_EVENT */
   KLARVESIMO_MAJOR,        /* the version, as numbers; any version is read */
   KLARVESIMO_MINOR,
   KLARVESIMO_NAME,         /* the place of the method's or event's name, and its length; a response: 0 and 0 */
   KLARVESIMO_NAME_LENGTH,
   KLARVESIMO_ID,           /* the request-id */
   KLARVESIMO_STATUS,       /* a response's status code, 0 to 999; else 0 */
-  KLARVESIMO_STATE,        /* 1 PENDING, 2 IN-PROGRESS, 3 COMPLETE; a request: 0 */
+  KLARVESIMO_STATE,        /* KLARVESIMO_PENDING, KLARVESIMO_IN_PROGRESS or KLARVESIMO_COMPLETE; a request: 0 */
   KLARVESIMO_GOOD,         /* 1; or 0 for bad fields, and then all numbers below are 0 */
   KLARVESIMO_FIELDS,       /* how many fields there are, 0 to 32 */
   KLARVESIMO_BODY,         /* the place of the body, and its length */
   KLARVESIMO_BODY_LENGTH,
-  KLARVESIMO_KNOWN,        /* which names came: the sum of 1 << the number of each known one, and of 1 << 7
-                            * where a field came with a name that is not known */
+  KLARVESIMO_KNOWN,        /* which names came: the sum of KLARVESIMO_HAS_ and the name, for each name once */
   KLARVESIMO_HEAD = 16     /* the fields' numbers begin here; those between are 0 */
 };
+enum { KLARVESIMO_REQUEST = 1, KLARVESIMO_RESPONSE = 2, KLARVESIMO_EVENT = 3 };
+enum { KLARVESIMO_PENDING = 1, KLARVESIMO_IN_PROGRESS = 2, KLARVESIMO_COMPLETE = 3 };
 
-/* The numbers of the known names, whose case does not matter. */
+/* The numbers of the known names, whose case does not matter; and their bits in KLARVESIMO_KNOWN. */
 enum {
   KLARVESIMO_CHANNEL_IDENTIFIER,
   KLARVESIMO_CONTENT_LENGTH,
@@ -80,52 +123,103 @@ enum {
   KLARVESIMO_ACTIVE_REQUEST_ID_LIST,
   KLARVESIMO_KILL_ON_BARGE_IN,
   KLARVESIMO_PROXY_SYNC_ID,
-  KLARVESIMO_LOGGING_TAG
+  KLARVESIMO_LOGGING_TAG,
+  KLARVESIMO_OTHER_NAME /* any that is not known */
+};
+enum {
+  KLARVESIMO_HAS_CHANNEL_IDENTIFIER = 1 << KLARVESIMO_CHANNEL_IDENTIFIER,
+  KLARVESIMO_HAS_CONTENT_LENGTH = 1 << KLARVESIMO_CONTENT_LENGTH,
+  KLARVESIMO_HAS_CONTENT_TYPE = 1 << KLARVESIMO_CONTENT_TYPE,
+  KLARVESIMO_HAS_ACTIVE_REQUEST_ID_LIST = 1 << KLARVESIMO_ACTIVE_REQUEST_ID_LIST,
+  KLARVESIMO_HAS_KILL_ON_BARGE_IN = 1 << KLARVESIMO_KILL_ON_BARGE_IN,
+  KLARVESIMO_HAS_PROXY_SYNC_ID = 1 << KLARVESIMO_PROXY_SYNC_ID,
+  KLARVESIMO_HAS_LOGGING_TAG = 1 << KLARVESIMO_LOGGING_TAG,
+  KLARVESIMO_HAS_OTHER_NAME = 1 << KLARVESIMO_OTHER_NAME
 };
 
-/* Field f, from 0, has four numbers, at out[KLARVESIMO_HEAD + 4 * f] and after: the place and length of its name as written, and the
- * place and length of its value without the blanks at both ends. An out shorter than KLARVESIMO_HEAD + 4 * fields gets 7; one of
- * KLARVESIMO_MOST never does. Numbers of out past these stay as they were. 0, 1 to 5, or 7. */
-#define KLARVESIMO_MOST (KLARVESIMO_HEAD + 4 * 32)
+/* Field f, from 0, has four numbers, at out[KLARVESIMO_HEAD + KLARVESIMO_FIELD_NUMBERS * f] and after. An out shorter
+ * than KLARVESIMO_HEAD + KLARVESIMO_FIELD_NUMBERS * fields gets 7; one of KLARVESIMO_MOST never does. Numbers of out
+ * past these stay as they were. */
+enum {
+  KLARVESIMO_FIELD_NAME,         /* the place of its name, as written, and the length */
+  KLARVESIMO_FIELD_NAME_LENGTH,
+  KLARVESIMO_FIELD_VALUE,        /* the place of its value, without the blanks at both ends, and the length */
+  KLARVESIMO_FIELD_VALUE_LENGTH,
+  KLARVESIMO_FIELD_NUMBERS,
+  KLARVESIMO_MOST_FIELDS = 32,
+  KLARVESIMO_MOST = KLARVESIMO_HEAD + KLARVESIMO_FIELD_NUMBERS * KLARVESIMO_MOST_FIELDS
+};
+/* 0, 1 to 5, or 7. */
 uint32_t klarvesimo_read(const uint8_t *bytes, size_t count, uint64_t *out, size_t room, uint64_t *consumed);
 
-/* A channel is these 64 numbers, which the caller keeps and hands in again. Any numbers at all may come in: a channel is sound if its name is
- * well formed (1 to 32 ASCII letters or digits, then `@speechsynth`), it is idle exactly when nothing is outstanding, at most 16 are, and their ids
- * rise in queue order with none above the last seen (none seen: idle). One that is not, or in which a number is outside the range
- * given here, gets 21 from every call. Numbers of the queue past the count, and of the name past its size, are not looked at; a call
- * that returns 0 writes all 64 anew, and those as 0. */
+/* A channel is these 64 numbers, which the caller keeps and hands in again. Any numbers at all may come in: a channel
+ * is sound if its name is well formed (1 to 32 ASCII letters or digits, then `@speechsynth`), it is idle exactly when
+ * nothing is outstanding, at most 16 are, and their ids rise in queue order with none above the last seen (none seen:
+ * idle). One that is not, or in which a number is outside the range given here, gets 21 from every call. Numbers of the
+ * queue past the count, and of the name past its size, are not looked at; a call that returns 0 writes all 64 anew, and
+ * those as 0. */
 enum {
-  KLARVESIMO_CHANNEL_STATE,      /* 0 idle, 1 speaking, 2 paused */
-  KLARVESIMO_CHANNEL_LAST,       /* 0 where no request was seen; else the last id seen, and 1 more: at most 4,294,967,296 */
-  KLARVESIMO_CHANNEL_COUNT,      /* how many SPEAKs are outstanding, 0 to 16 */
-  KLARVESIMO_CHANNEL_SIZE,       /* the length of the name, at most 44 */
-  KLARVESIMO_CHANNEL_QUEUE,      /* 16 numbers: each outstanding SPEAK, the active one first, as its id times 2, and 1 more where barge-in kills it */
-  KLARVESIMO_CHANNEL_NAME = 20,  /* 44 numbers: the name, a byte in each */
-  KLARVESIMO_CHANNEL = 64        /* how many numbers there are */
+  KLARVESIMO_CHANNEL_STATE,     /* KLARVESIMO_IDLE, KLARVESIMO_SPEAKING or KLARVESIMO_PAUSED */
+  KLARVESIMO_CHANNEL_LAST,      /* 0 where no request was seen; else the last id seen, and 1 more: at most
+                                 * 4,294,967,296 */
+  KLARVESIMO_CHANNEL_COUNT,     /* how many SPEAKs are outstanding, 0 to 16 */
+  KLARVESIMO_CHANNEL_SIZE,      /* the length of the name, at most 44 */
+  KLARVESIMO_CHANNEL_QUEUE,     /* 16 numbers: each outstanding SPEAK, the active one first, as its id times 2, and 1
+                                 * more where barge-in kills it */
+  KLARVESIMO_CHANNEL_NAME = 20, /* 44 numbers: the name, a byte in each */
+  KLARVESIMO_CHANNEL = 64       /* how many numbers there are */
 };
-enum { KLARVESIMO_MOST_HELD = 16, KLARVESIMO_LONGEST_MESSAGE = 16384, KLARVESIMO_LONGEST_ANSWER = 305 };
+enum { KLARVESIMO_IDLE = 0, KLARVESIMO_SPEAKING = 1, KLARVESIMO_PAUSED = 2 };
 
-/* Opens a channel: idle, with nothing outstanding and no request seen. 0; or 10, and then the name in the channel is empty, so it is not
- * sound. All 64 numbers are written in either case. */
+/* Opens a channel: idle, with nothing outstanding and no request seen. 0; or 10, and then the name in the channel is
+ * empty, so it is not sound. All 64 numbers are written in either case. */
 uint32_t klarvesimo_open(uint64_t *channel, const uint8_t *name, size_t length);
 
-/* Handles the client's message at the front of `bytes`, and nothing past it: judges the request, does what it asks, and writes the exact
- * response to the front of out. A request that fails is handled too: its status is in the response, and of the channel at most the last id has
- * changed. 0, 1 to 6, 7 or 21; KLARVESIMO_LONGEST_ANSWER bytes of room never meet 7. `counts` is set always: */
+/* Handles the client's message at the front of `bytes`, and nothing past it: judges the request, does what it asks, and
+ * writes the exact response to the front of out. A request that fails is handled too: its status is in the response,
+ * and of the channel at most the last id has changed. 0, 1 to 6, 7 or 21; KLARVESIMO_LONGEST_ANSWER bytes of room never
+ * meet 7. `counts` is set always: */
 enum {
   KLARVESIMO_CONSUMED, /* how many bytes the message had: the stated length on 0, 5 and 6, else 0 */
-  KLARVESIMO_WRITTEN   /* how many bytes of out are the response: 0 where the call is refused; those past them stay as they were */
+  KLARVESIMO_WRITTEN,  /* how many bytes of out are the response: 0 where the call is refused; those past them stay as
+                        * they were */
+  KLARVESIMO_COUNTS    /* how many counts there are */
 };
-uint32_t klarvesimo_handle(uint64_t *channel, const uint8_t *bytes, size_t count, uint8_t *out, size_t room, uint64_t *counts);
+uint32_t klarvesimo_handle(uint64_t *channel, const uint8_t *bytes, size_t count, uint8_t *out, size_t room,
+                           uint64_t *counts);
 
-/* The engine's report that the active prompt has ended: writes the SPEAK-COMPLETE event for it to the front of out, and the next prompt, if
- * there is one, is speaking. The causes: 0 normal, 1 barge-in, 2 parse-failure, 3 uri-failure, 4 error, 5 language-unsupported,
- * 6 lexicon-load-failure, 7 cancelled. 0, 7, 8, 9 or 21; KLARVESIMO_LONGEST_ANSWER bytes of room never meet 7. `written` is set always, to 0
- * where the call is refused; bytes of out past it stay as they were. */
+/* Why a prompt has ended, as the engine reports it. */
+enum {
+  KLARVESIMO_CAUSE_NORMAL,
+  KLARVESIMO_CAUSE_BARGE_IN,
+  KLARVESIMO_CAUSE_PARSE_FAILURE,
+  KLARVESIMO_CAUSE_URI_FAILURE,
+  KLARVESIMO_CAUSE_ERROR,
+  KLARVESIMO_CAUSE_LANGUAGE_UNSUPPORTED,
+  KLARVESIMO_CAUSE_LEXICON_LOAD_FAILURE,
+  KLARVESIMO_CAUSE_CANCELLED,
+  KLARVESIMO_CAUSES /* how many there are */
+};
+
+/* The engine's report that the active prompt has ended: writes the SPEAK-COMPLETE event for it to the front of out, and
+ * the next prompt, if there is one, is speaking. 0, 7, 8, 9 or 21; KLARVESIMO_LONGEST_ANSWER bytes of room never meet
+ * 7. `written` is set always, to 0 where the call is refused; bytes of out past it stay as they were.
+ *
+ * A report names no prompt: it ends the one that is the first held one at this call. So a late report ends the wrong
+ * one: after SPEAK 7, SPEAK 8 and STOP 7, the engine's late end of 7 would be taken for the end of 8, which was never
+ * spoken. What the caller must do about that:
+ *
+ *  - after every call, compare the first id of klarvesimo_held with the prompt that the engine plays, and
+ *    channel[KLARVESIMO_CHANNEL_STATE] with whether it speaks; and start, stop, pause or resume the engine accordingly;
+ *  - keep with each end that the engine tells of the id of its prompt, and report it only where that is the first held
+ *    one; else drop it;
+ *  - where KLARVESIMO_NOT_SPEAKING is returned for the first held one, that is paused: keep the report, and give it
+ *    again once the state is KLARVESIMO_SPEAKING. */
 uint32_t klarvesimo_report(uint64_t *channel, uint32_t cause, uint8_t *out, size_t room, uint64_t *written);
 
-/* The ids of the outstanding SPEAKs, in queue order, to the front of ids, and how many they are to `count`; the ids past them stay as they
- * were. 0; 7 where there are more than `room`; or 21. Where it is refused, `count` is set to 0. KLARVESIMO_MOST_HELD of room never meet 7. */
+/* The ids of the outstanding SPEAKs, in queue order, to the front of ids, and how many they are to `count`; the ids
+ * past them stay as they were. 0; 7 where there are more than `room`; or 21. Where it is refused, `count` is set to 0.
+ * KLARVESIMO_MOST_HELD of room never meet 7. */
 uint32_t klarvesimo_held(const uint64_t *channel, uint64_t *ids, size_t room, uint64_t *count);
 
 #ifdef __cplusplus

@@ -1,11 +1,11 @@
-//! The cases of the benchmark: the same messages as the other program's, many times over, for a tool that counts instructions.
+//! The cases of the benchmark: the same messages as the other program's, many
+//! times over, for a tool that counts instructions.
 
 use std::hint::black_box;
 
 use crate::kept::{self, Kept};
 use crate::start_line::RequestState;
-use crate::states::Ids;
-use crate::writing::{with_own_digits, Answer, Outgoing};
+use crate::writing::{with_own_digits, Answer, Ids, Outgoing};
 
 const NAME: &[u8] = b"7f3a@speechsynth";
 /// What no answer is longer than.

@@ -1,13 +1,7 @@
-//! The channel: what is kept of it, when it is sound, its opening, and the
-//! two calls on it, a client's message and an engine's report.
+//! The channel: what is kept of it, when it is sound, and its opening.
 
-use crate::framing::{frame, Frame};
-use crate::judgement::{judge, Request};
-use crate::message::start;
 use crate::octets::{is, NAME};
 use crate::refusal::Refusal;
-use crate::start_line::StartLine;
-use crate::writing::{Event, Outgoing};
 
 /// "Outstanding SPEAKs: at most 16, the active one counted."
 pub const MOST_OUTSTANDING: usize = 16;
@@ -15,8 +9,6 @@ pub const RESOURCE: &[u8] = b"@speechsynth";
 /// "1 to 32 ASCII letters or digits, then `@speechsynth`."
 const LONGEST_FIRST_PART: usize = 32;
 pub const LONGEST_NAME: usize = LONGEST_FIRST_PART + RESOURCE.len();
-/// "Engine cause above 7" is refused.
-const LAST_CAUSE: u32 = 7;
 
 #[derive(Clone, Copy, Debug, PartialEq, Eq)]
 pub enum State {
@@ -126,32 +118,6 @@ pub struct Channel {
     pub queue: Queue,
 }
 
-/// What a call returns: the number, the count consumed and the count written.
-#[derive(Clone, Copy, Debug, PartialEq, Eq)]
-pub struct Outcome {
-    pub number: u32,
-    pub consumed: usize,
-    pub written: usize,
-}
-
-impl Outcome {
-    pub fn refused(refusal: Refusal, consumed: usize) -> Outcome {
-        Outcome {
-            number: refusal.number(),
-            consumed,
-            written: 0,
-        }
-    }
-
-    fn handled(consumed: usize, written: usize) -> Outcome {
-        Outcome {
-            number: 0,
-            consumed,
-            written,
-        }
-    }
-}
-
 impl Channel {
     /// "A refused opening gives such a channel with an empty name, so not sound."
     pub const UNOPENED: Channel = Channel {
@@ -205,65 +171,5 @@ impl Channel {
     /// The ids that the channel holds, in queue order.
     pub fn held(&self) -> impl Iterator<Item = u32> + '_ {
         self.queue.outstanding().iter().map(|speak| speak.id)
-    }
-
-    /// One client message: 21 before all, 1 to 6 before 7.
-    pub fn handle(&mut self, input: &[u8], output: &mut [u8]) -> Outcome {
-        if !self.is_sound() {
-            return Outcome::refused(Refusal::NotSound, 0);
-        }
-        let frame = match frame(input) {
-            Err(refusal) => return Outcome::refused(refusal, 0),
-            Ok(frame) => frame,
-        };
-        let request = match request(&frame) {
-            Err(refusal) => return Outcome::refused(refusal, frame.length()),
-            Ok(request) => request,
-        };
-        let mut next = *self;
-        let answer = judge(&mut next, &request);
-        match Outgoing::Answer(answer).write(self.name.bytes(), output) {
-            None => Outcome::refused(Refusal::NoRoom, 0),
-            Some(written) => {
-                *self = next;
-                Outcome::handled(frame.length(), written)
-            }
-        }
-    }
-
-    /// One engine report: 21, then 9, then 8, then 7.
-    pub fn report(&mut self, cause: u32, output: &mut [u8]) -> Outcome {
-        if !self.is_sound() {
-            return Outcome::refused(Refusal::NotSound, 0);
-        }
-        if cause > LAST_CAUSE {
-            return Outcome::refused(Refusal::NoSuchCause, 0);
-        }
-        if self.state != State::Speaking {
-            return Outcome::refused(Refusal::NothingSpeaking, 0);
-        }
-        let mut next = *self;
-        let id = next.complete_active();
-        match Outgoing::Event(Event { id, cause }).write(self.name.bytes(), output) {
-            None => Outcome::refused(Refusal::NoRoom, 0),
-            Some(written) => {
-                *self = next;
-                Outcome::handled(0, written)
-            }
-        }
-    }
-}
-
-/// 5 for a malformed start line, 6 for a response or event.
-fn request<'a>(frame: &Frame<'a>) -> Result<Request<'a>, Refusal> {
-    match start(frame) {
-        None => Err(Refusal::StartLine),
-        Some((StartLine::Request { name, id }, block)) => Ok(Request {
-            version: frame.version,
-            name,
-            id,
-            block,
-        }),
-        Some(_) => Err(Refusal::NoRequest),
     }
 }

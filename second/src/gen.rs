@@ -1,16 +1,16 @@
-//! Making scripts: sound, bent and broken inputs.
+//! Making scripts: sound, damaged and unsound inputs.
 //!
 //! A script depends on seed and kind alone. Commands come in batches, since
 //! a sweep over all places of one message or a conversation belongs together.
 
 mod batch;
-mod bend;
+mod conversation;
+mod damage;
 mod draft;
 mod random;
-mod talk;
+mod request;
 mod unsound;
 mod wire;
-mod wish;
 mod write;
 
 use std::io::{self, Write};
@@ -60,7 +60,7 @@ fn fill(batch: &mut Batch, random: &mut Random, kind: Kind, turn: usize) {
     match kind {
         Kind::Frame => wire::frames(batch, random),
         Kind::Read => wire::reads(batch, random),
-        Kind::Calls => talk::calls(batch, random),
+        Kind::Calls => conversation::calls(batch, random),
         Kind::Write => write::writes(batch, random, turn),
         Kind::All => mixture(batch, random),
     }
@@ -71,6 +71,6 @@ fn mixture(batch: &mut Batch, random: &mut Random) {
     match random.below(8) {
         0 | 1 => (0..30).for_each(|_| wire::frames(batch, random)),
         2..=4 => (0..30).for_each(|_| wire::reads(batch, random)),
-        _ => talk::calls(batch, random),
+        _ => conversation::calls(batch, random),
     }
 }

@@ -4,8 +4,8 @@ use crate::channel::{Channel, State};
 use crate::fields::{self, Field, Fields, Known};
 use crate::framing::Version;
 use crate::start_line::RequestState;
-use crate::states::{list_of_ids, Ids};
-use crate::writing::Answer;
+use crate::states::list_of_ids;
+use crate::writing::{Answer, Ids};
 
 #[derive(Clone, Copy, Debug, PartialEq, Eq)]
 pub struct Status(pub u16);

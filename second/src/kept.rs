@@ -1,7 +1,8 @@
 //! The channel as its caller in C keeps it: 64 numbers, at the places that
 //! include/klarvesimo.h gives. Any numbers at all may come in.
 
-use crate::channel::{Channel, Name, Outcome, Queue, Speak, State, LONGEST_NAME, MOST_OUTSTANDING};
+use crate::calls::Outcome;
+use crate::channel::{Channel, Name, Queue, Speak, State, LONGEST_NAME, MOST_OUTSTANDING};
 use crate::refusal::Refusal;
 
 pub const STATE: usize = 0;

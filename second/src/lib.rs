@@ -4,6 +4,7 @@
 //! implementation; the two are compared by the lines that they write.
 
 pub mod bench;
+pub mod calls;
 pub mod channel;
 pub mod fields;
 pub mod framing;
@@ -21,7 +22,8 @@ pub mod states;
 pub mod tell;
 pub mod writing;
 
-pub use channel::{Channel, Outcome};
+pub use calls::Outcome;
+pub use channel::Channel;
 pub use framing::frame;
 pub use kept::Kept;
 pub use message::read;

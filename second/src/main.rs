@@ -11,10 +11,21 @@ use second::play::play;
 use second::script::Trouble;
 use second::tell::tell;
 
-const USAGE: &str = "usage: second play [FILE]
-       second gen SEED COUNT [frame|read|calls|write|all]
-       second tell [FILE]
-       second bench CASE COUNT";
+/// Each command, the words after it, and what it does.
+const COMMANDS: [(&str, &str, &str); 4] = [
+    ("play", "[FILE]", "plays a script and writes its lines"),
+    (
+        "gen",
+        "SEED COUNT [frame|read|calls|write|all]",
+        "writes a script with COUNT calls",
+    ),
+    ("tell", "[FILE]", "plays a script and prints it for people"),
+    (
+        "bench",
+        "CASE COUNT",
+        "makes COUNT calls of one case of the benchmark",
+    ),
+];
 
 /// Unreadable lines, and arguments that are none of the above.
 const UNREADABLE: u8 = 2;
@@ -27,6 +38,8 @@ fn main() -> ExitCode {
     let words: Vec<String> = env::args().skip(1).collect();
     let words: Vec<&str> = words.iter().map(String::as_str).collect();
     match words[..] {
+        ["--help"] => help(usage_of_all()),
+        [command, "--help"] => usage_of(command).map_or_else(usage, help),
         ["play"] => run(play, None),
         ["play", file] => run(play, Some(file)),
         ["tell"] => run(tell, None),
@@ -48,8 +61,26 @@ fn measured(case: &str, count: &str) -> ExitCode {
     }
 }
 
+/// The usage of all commands, a line each.
+fn usage_of_all() -> String {
+    let lines = COMMANDS.map(|(command, words, _)| format!("second {command} {words}"));
+    format!("usage: {}", lines.join("\n       "))
+}
+
+/// The usage of one command; none where there is no such command.
+fn usage_of(command: &str) -> Option<String> {
+    let mut commands = COMMANDS.iter();
+    let (command, words, does) = commands.find(|(name, _, _)| *name == command)?;
+    Some(format!("usage: second {command} {words}\n{does}"))
+}
+
+fn help(text: String) -> ExitCode {
+    let written = writeln!(io::stdout(), "{text}");
+    finish(written.map_err(Trouble::Output))
+}
+
 fn usage() -> ExitCode {
-    eprintln!("{USAGE}");
+    eprintln!("{}", usage_of_all());
     ExitCode::from(UNREADABLE)
 }
 

@@ -2,7 +2,7 @@
 
 use std::io::{BufRead, Write};
 
-use crate::channel::Outcome;
+use crate::calls::Outcome;
 use crate::fields::Fields;
 use crate::framing::frame;
 use crate::kept::Kept;

@@ -6,11 +6,11 @@ use crate::channel::{State, MOST_OUTSTANDING};
 use crate::kept::{self, entry, Kept, NUMBERS};
 use crate::ledger::Violation;
 use crate::start_line::RequestState;
-use crate::states::Ids;
-use crate::writing::{Answer, Event};
+use crate::writing::{Answer, Event, Ids};
 
 pub const MOST_BYTES: usize = 1_000_000;
 pub const MOST_ROOM: u32 = 1_000_000;
+const MOST_SHOWN: usize = 80;
 
 #[derive(Clone, Debug, PartialEq, Eq)]
 pub enum Command {
@@ -132,12 +132,25 @@ const COMMANDS: [&[u8]; 11] = [
 ];
 
 fn no_command(words: &[&[u8]]) -> String {
-    let first = String::from_utf8_lossy(words[0]);
+    let first = shown(words[0]);
     if COMMANDS.contains(&words[0]) {
         format!("`{first}` with {} words after it", words.len() - 1)
     } else {
         format!("no command `{first}`")
     }
+}
+
+/// A word that cannot be read, as an error shows it: escaped, and cut at 80 characters.
+fn shown(word: &[u8]) -> String {
+    let mut text = String::new();
+    for byte in word {
+        let escaped = byte.escape_ascii();
+        if text.len() + escaped.len() > MOST_SHOWN {
+            return text + "...";
+        }
+        text.extend(escaped.map(char::from));
+    }
+    text
 }
 
 /// The spaces in front of a comment belong to it.
@@ -191,16 +204,15 @@ pub fn put_hex(text: &mut Vec<u8>, bytes: &[u8]) {
 
 /// Decimal without sign, any number of leading zeros.
 fn number(what: &str, word: &[u8], most: u64) -> Result<u64, String> {
-    let shown = || String::from_utf8_lossy(word).into_owned();
     if word.is_empty() || !word.iter().all(u8::is_ascii_digit) {
-        return Err(format!("{what} `{}` is no number", shown()));
+        return Err(format!("{what} `{}` is no number", shown(word)));
     }
     let value = word.iter().try_fold(0u64, |value, byte| {
         value.checked_mul(10)?.checked_add((byte - b'0').into())
     });
     match value {
         Some(value) if value <= most => Ok(value),
-        _ => Err(format!("{what} `{}` is above {most}", shown())),
+        _ => Err(format!("{what} `{}` is above {most}", shown(word))),
     }
 }
 
@@ -282,8 +294,7 @@ fn complete(cause: &[u8], id: &[u8], name: &[u8], room: &[u8]) -> Result<Command
 }
 
 fn request_state(word: &[u8]) -> Result<RequestState, String> {
-    RequestState::of_word(word)
-        .ok_or_else(|| format!("no request state `{}`", String::from_utf8_lossy(word)))
+    RequestState::of_word(word).ok_or_else(|| format!("no request state `{}`", shown(word)))
 }
 
 /// As `7,8`, at most 16, or `-` for none.

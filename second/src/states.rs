@@ -4,29 +4,7 @@
 use crate::channel::{Channel, Queue, Speak, State, MOST_OUTSTANDING};
 use crate::octets::request_id;
 use crate::start_line::RequestState;
-
-/// The ids of an answer's list, in queue order; empty where there is no list.
-#[derive(Clone, Copy, Debug, PartialEq, Eq)]
-pub struct Ids {
-    stored: [u32; MOST_OUTSTANDING],
-    count: usize,
-}
-
-impl Ids {
-    pub const NONE: Ids = Ids {
-        stored: [0; MOST_OUTSTANDING],
-        count: 0,
-    };
-
-    pub fn all(&self) -> &[u32] {
-        &self.stored[..self.count]
-    }
-
-    pub fn add(&mut self, id: u32) {
-        self.stored[self.count] = id;
-        self.count += 1;
-    }
-}
+use crate::writing::Ids;
 
 /// One bit for each place of the queue.
 type Places = u32;

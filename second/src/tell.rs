@@ -5,7 +5,7 @@
 
 use std::io::{BufRead, Write};
 
-use crate::channel::Outcome;
+use crate::calls::Outcome;
 use crate::framing::frame;
 use crate::ledger::{request_of, Entry, Violation};
 use crate::message::read;
@@ -16,7 +16,7 @@ use crate::start_line::StartLine;
 use crate::writing::{cause_word, Outgoing};
 
 /// What became of a SPEAK.
-enum Fate {
+enum Became {
     Held,
     Spoken(String),
     Stopped(String),
@@ -25,7 +25,7 @@ enum Fate {
 
 struct Prompt {
     id: u32,
-    fate: Fate,
+    became: Became,
 }
 
 /// The SPEAKs since one opening, in the order of the calls.
@@ -51,7 +51,7 @@ pub fn tell(script: &mut dyn BufRead, out: &mut dyn Write) -> Result<(), Trouble
         out.write_all(text.as_bytes()).map_err(Trouble::Output)?;
         kept.map_err(|violation| Trouble::Ledger { line, violation })
     })?;
-    let text = teller.fates();
+    let text = teller.prompts();
     out.write_all(text.as_bytes()).map_err(Trouble::Output)
 }
 
@@ -143,12 +143,12 @@ impl Teller {
         let chapter = self.chapters.last_mut().expect("one since the beginning");
         if let Ok(Entry::Closed(ids)) = &call.entry {
             let cause = cause_written(call.written);
-            chapter.close(ids, || Fate::Spoken(cause.clone()));
+            chapter.close(ids, || Became::Spoken(cause.clone()));
         }
         call.entry.map(|_| ())
     }
 
-    fn fates(&self) -> String {
+    fn prompts(&self) -> String {
         let mut text = String::from("What became of each prompt\n");
         for chapter in &self.chapters {
             // The time before any opening is worth a word only if something came then.
@@ -157,7 +157,7 @@ impl Teller {
             }
             text.push_str(&format!("\n{}\n", chapter.title));
             for prompt in &chapter.prompts {
-                text.push_str(&format!("  {:>10}  {}\n", prompt.id, prompt.fate.words()));
+                text.push_str(&format!("  {:>10}  {}\n", prompt.id, prompt.became.words()));
             }
         }
         text
@@ -168,40 +168,40 @@ impl Chapter {
     /// What a message from the client tells of prompts.
     fn note(&mut self, method: &[u8], id: u32, call: &Call) {
         match &call.entry {
-            Ok(Entry::Accepted(id)) => self.add(*id, Fate::Held),
+            Ok(Entry::Accepted(id)) => self.add(*id, Became::Held),
             Ok(Entry::Closed(ids)) => {
                 let by = format!("{} {id}", String::from_utf8_lossy(method));
-                self.close(ids, || Fate::Stopped(by.clone()));
+                self.close(ids, || Became::Stopped(by.clone()));
             }
-            _ if method == b"SPEAK" => self.add(id, Fate::NotAccepted(why_not(call))),
+            _ if method == b"SPEAK" => self.add(id, Became::NotAccepted(why_not(call))),
             _ => {}
         }
     }
 
-    fn add(&mut self, id: u32, fate: Fate) {
-        self.prompts.push(Prompt { id, fate });
+    fn add(&mut self, id: u32, became: Became) {
+        self.prompts.push(Prompt { id, became });
     }
 
-    fn close(&mut self, ids: &[u32], fate: impl Fn() -> Fate) {
+    fn close(&mut self, ids: &[u32], became: impl Fn() -> Became) {
         for &id in ids {
             // What is held is among the latest.
             let mut prompts = self.prompts.iter_mut().rev();
-            match prompts.find(|prompt| prompt.id == id && matches!(prompt.fate, Fate::Held)) {
-                Some(prompt) => prompt.fate = fate(),
+            match prompts.find(|prompt| prompt.id == id && matches!(prompt.became, Became::Held)) {
+                Some(prompt) => prompt.became = became(),
                 // Only on a channel that the script has set.
-                None => self.add(id, fate()),
+                None => self.add(id, became()),
             }
         }
     }
 }
 
-impl Fate {
+impl Became {
     fn words(&self) -> String {
         match self {
-            Fate::Held => "still held".to_string(),
-            Fate::Spoken(cause) => format!("spoken, {cause}"),
-            Fate::Stopped(by) => format!("stopped by {by}"),
-            Fate::NotAccepted(why) => format!("not accepted, {why}"),
+            Became::Held => "still held".to_string(),
+            Became::Spoken(cause) => format!("spoken, {cause}"),
+            Became::Stopped(by) => format!("stopped by {by}"),
+            Became::NotAccepted(why) => format!("not accepted, {why}"),
         }
     }
 }

@@ -1,7 +1,30 @@
 //! Bytes written: answers and events.
 
+use crate::channel::MOST_OUTSTANDING;
 use crate::start_line::RequestState;
-use crate::states::Ids;
+
+/// The ids of an answer's list, in queue order; empty where there is no list.
+#[derive(Clone, Copy, Debug, PartialEq, Eq)]
+pub struct Ids {
+    stored: [u32; MOST_OUTSTANDING],
+    count: usize,
+}
+
+impl Ids {
+    pub const NONE: Ids = Ids {
+        stored: [0; MOST_OUTSTANDING],
+        count: 0,
+    };
+
+    pub fn all(&self) -> &[u32] {
+        &self.stored[..self.count]
+    }
+
+    pub fn add(&mut self, id: u32) {
+        self.stored[self.count] = id;
+        self.count += 1;
+    }
+}
 
 /// A response to one request.
 #[derive(Clone, Copy, Debug, PartialEq, Eq)]

@@ -264,6 +264,57 @@ fn anything_else_is_usage() {
     }
 }
 
+#[test]
+fn help_is_usage_on_standard_output() {
+    let all = second(&["--help"], b"");
+    assert_eq!(all.status.code(), Some(0));
+    assert!(all.stderr.is_empty());
+    for command in ["play", "gen", "tell", "bench"] {
+        assert!(text(&all.stdout).contains(&format!("second {command} ")));
+        let one = second(&[command, "--help"], b"");
+        assert_eq!(one.status.code(), Some(0), "{command}");
+        assert!(one.stderr.is_empty(), "{command}");
+        let usage = format!("usage: second {command} ");
+        assert!(text(&one.stdout).starts_with(&usage), "{command}");
+    }
+    assert_eq!(second(&["none", "--help"], b"").status.code(), Some(2));
+}
+
+#[test]
+fn an_unreadable_word_is_shown_escaped_and_cut() {
+    let long = "x".repeat(1_000_000);
+    let cut = format!("second: line 1: no command `{}...`\n", "x".repeat(80));
+    let rows: [(&[u8], &str); 6] = [
+        (
+            b"\x1b[2Jno\xff",
+            "second: line 1: no command `\\x1b[2Jno\\xff`\n",
+        ),
+        (
+            b"report \x00 1",
+            "second: line 1: cause `\\x00` is no number\n",
+        ),
+        (
+            b"respond \xc3\xa9 200 7 61 - 9",
+            "second: line 1: no request state `\\xc3\\xa9`\n",
+        ),
+        (&[b'x'; 80], &cut.replace("...", "")),
+        (long.as_bytes(), &cut),
+        // An escape is shown whole or not at all: 19 of four characters, and two more bytes.
+        (
+            &[&[0; 19][..], b"abc\x00"].concat(),
+            &format!(
+                "second: line 1: no command `{}abc...`\n",
+                "\\x00".repeat(19)
+            ),
+        ),
+    ];
+    for (line, expected) in rows {
+        let output = second(&["play"], line);
+        assert_eq!(output.status.code(), Some(2));
+        assert_eq!(text(&output.stderr), expected);
+    }
+}
+
 /// How many of the script's commands are calls.
 fn calls(script: &str) -> usize {
     const NO_CALLS: [&str; 4] = ["channel", "number", "numbers", "show"];
@@ -318,7 +369,7 @@ fn what_became_of_each_prompt() {
     let output = second(&["tell"], script.as_bytes());
     assert_eq!(output.status.code(), Some(0));
     let told = text(&output.stdout);
-    let (story, fates) = told.split_once("What became of each prompt\n").unwrap();
+    let (story, prompts) = told.split_once("What became of each prompt\n").unwrap();
     assert!(
         story.contains("-> MRCP/2.0 106 SPEAK 1\n   Channel-Identifier:"),
         "{story}"
@@ -331,7 +382,7 @@ fn what_became_of_each_prompt() {
         story.contains("refused 9: engine cause above 7\n"),
         "{story}"
     );
-    let lines: Vec<&str> = fates.lines().map(str::trim).collect();
+    let lines: Vec<&str> = prompts.lines().map(str::trim).collect();
     let expected = [
         "",
         "channel 7f3a@speechsynth",

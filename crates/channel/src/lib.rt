@@ -55,7 +55,7 @@ pub fn is_sound(last: synth::LastId, c: Channel) -> bool
     queue::is_rising(queue, first_above(last))
 }
 
-// The only places that build a channel: anew, and with another state and queue.
+// A channel anew, and one with another state and queue. Only `loading` builds one otherwise, from C's numbers.
 pub fn fresh(name: channelnames::Name) -> Channel
     ensures { λ r. ⌜ r ≡ kept name ⌝ }
 {

@@ -6,7 +6,7 @@ ghost use Prim.Native.Nat.{_-_, _≤_, _<_};
 ghost use lib.Dec.{leb};
 ghost use lib.ListN.{length, replicate};
 ghost use Rattle.lists.specs.Lists.{run, same};
-ghost use Rattle.octets.specs.Octets.{within, isLetter, isDigit};
+ghost use Rattle.octets.specs.Octets.{isLetter, isDigit};
 ghost use Rattle.synth.specs.Channel.{wellNamed};
 ghost use Rattle.channelnames.specs.Names.{nameOf, keptName};
 
@@ -19,34 +19,13 @@ pub struct Name {
     pub size: usize,
 }
 
-fn within(from: u8, to: u8, b: u8) -> bool
-    ensures { λ r. ⌜ r ≡ within from to b ⌝ }
-{
-    if b < from {
-        return false;
-    }
-    b <= to
-}
-
-fn letter_or_digit(b: u8) -> bool
-    ensures { λ r. ⌜ r ≡ (isLetter b || isDigit b) ⌝ }
-{
-    if within(b'A', b'Z', b) {
-        return true;
-    }
-    if within(b'a', b'z', b) {
-        return true;
-    }
-    within(b'0', b'9', b)
-}
-
 // How many letters or digits stand at the front.
 fn word(name: &[u8]) -> usize
     ensures { λ r. ⌜ (r ≡ run (λ b. isLetter b || isDigit b) (now (name .entry))) × (r ≤ length (now (name .entry))) ⌝ }
 {
     let mut i: usize = 0;
     while i < name.len() {
-        if !letter_or_digit(name[i]) {
+        if !octets::is_letter_or_digit(name[i]) {
             return i;
         }
         i += 1;

@@ -1,2 +1,3 @@
 mod Lines
+mod Faces
 pub mod Theorems

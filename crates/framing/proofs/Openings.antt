@@ -2,12 +2,15 @@
 -- beginning of one, and refuses just where there never can be one.
 -- Assumes nothing.
 use mathlib.Core.Path.{_≡_, refl, sym, ap, subst, _∙_}
+use mathlib.Core.Bool.{Bool, true, false}
 use mathlib.Core.Logic.{_↔_}
 use mathlib.Core.List.{List, [], _∷_, _++_, append-nil}
-use Prim.Native.Nat.{ℕ, _≤_, zero-le, suc-le-suc}
+use Prim.Native.Nat.{ℕ, _≤_, _<_, zero-le, suc-le-suc}
 use native.Mathlib.Omega.{arith}
+use lib.Dec.{ltb}
 use lib.ListN.{length, take, drop, length-append, take-append-drop}
-use lib.Seq.{take-length}
+use lib.Seq.{take-length, take-all, length-take-le}
+use borrow.Author.Tests.{ltb-true, ltb-false}
 use Rattle.octets.specs.Octets.{bytes}
 use Rattle.readers.specs.Readers.{Read, short, wrong, got}
 use Rattle.readers.proofs.Fair.{Fair, Grows, Within, Fills, done-fair, bind-fair, text-fair, number-fair}
@@ -95,3 +98,24 @@ module _ (s : List ℕ) where
 
   pub never : (opening s ≡ wrong) ↔ Never s
   never = (wrong-never, λ n. never-wrong n (opening s) refl)
+
+-- a proper beginning of an opening is shorter than the longest one
+short-length : (s : List ℕ) → opening s ≡ short → length s < 31
+short-length s e =
+    let (t, ne, L) = begins s .0 e in
+    let (o, h) = whole (s ++ t) L in
+    omega (arith, got-size (s ++ t) o (length (s ++ t)) h, length-append s t, some-length t ne)
+
+-- no opening is longer than 31 bytes, so those behind them change nothing
+pub first-bytes : (s : List ℕ) → opening (take 31 s) ≡ opening s
+first-bytes s = go (ltb (length s) 31) refl
+  where
+    all-there : 31 ≤ length s → (r : Read Opening) → opening (take 31 s) ≡ r → opening (take 31 s) ≡ opening s
+    all-there h short e = absurd (omega (arith, short-length (take 31 s) e, length-take-le 31 s h))
+    all-there h wrong e = e ∙ sym (ap opening (sym (take-append-drop 31 s)) ∙ more (take 31 s) (drop 31 s) wrong e)
+    all-there h (got o k) e =
+        e ∙ sym (ap opening (sym (take-append-drop 31 s)) ∙ more (take 31 s) (drop 31 s) (got o k) e)
+
+    go : (b : Bool) → ltb (length s) 31 ≡ b → opening (take 31 s) ≡ opening s
+    go true e = ap opening (take-all 31 s (omega (arith, ltb-true (length s) 31 e)))
+    go false e = all-there (ltb-false (length s) 31 e) (opening (take 31 s)) refl

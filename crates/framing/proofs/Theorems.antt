@@ -1,2 +1,4 @@
 pub mod OpeningGrammar
 pub mod FrameAlone
+pub mod FirstBytes
+pub mod Waiting

@@ -1,7 +1,6 @@
 // Cutting lent bytes into messages: document 01, "Framing".
 ghost use mathlib.Core.Path.{_≡_};
-ghost use lib.ListN.{take};
-ghost use Rattle.framing.specs.Framing.{opening, framing, measured, frameLength};
+ghost use Rattle.framing.specs.Framing.{opening, framing, measured};
 ghost use Rattle.framing.specs.Steps.{textAfter, numberAfter, valueOf, frontOf};
 
 // What an opening says: the version, and the length of the whole message.
@@ -62,7 +61,7 @@ fn value(n: digits::Scan) -> u64
     }
 }
 
-// The opening at the front of `s`. It looks at 31 bytes at most.
+// The opening at the front of `s`. It looks at 31 bytes at most (proofs/Theorems/FirstBytes).
 pub fn read_opening(s: &[u8]) -> Front
     ensures { λ r. ⌜ r ≡ frontOf (opening (now (s .entry))) ⌝ }
 {
@@ -108,25 +107,4 @@ pub fn frame(s: &[u8]) -> Framing
         Front::Wrong => Framing::NoMessage,
         Front::Got(major, minor, stated, k) => measure(major, minor, stated, k, s.len()),
     }
-}
-
-fn frame_length(f: Framing) -> usize
-    ensures { λ r. ⌜ r ≡ frameLength f ⌝ }
-{
-    match f {
-        Framing::More => 0,
-        Framing::NoMessage => 0,
-        Framing::TooLong => 0,
-        Framing::TooShort => 0,
-        Framing::Frame(_, _, _, n) => n,
-    }
-}
-
-// The message at the front of `s`, as a part of it; empty where there is no frame.
-pub fn frame_part(s: &[u8]) -> &[u8]
-    ensures { λ r. ⌜ now r ≡ take (frameLength (framing (now (s .entry)))) (now (s .entry)) ⌝ }
-{
-    let f = frame(s);
-    let n = frame_length(f);
-    &s[..n]
 }

@@ -16,7 +16,7 @@ use Rattle.lists.specs.Lists.{all}
 use Rattle.lists.proofs.Tests.{both, either, refuted}
 use Rattle.lists.proofs.Scans.{all-append, all-of}
 use Rattle.octets.specs.Octets.{within, isValue}
-use Rattle.synth.specs.Channel.{View, ids, held, firstAbove, sound}
+use Rattle.synth.specs.Channel.{ids, firstAbove, sound}
 use Rattle.synth.specs.declared.State.{State}
 use Rattle.synth.specs.declared.State.the-variants.{Paused}
 use Rattle.synth.specs.declared.Entry.{Entry}
@@ -159,14 +159,6 @@ value-byte b h =
     (either (within 32 126 b || eqb b 9) (within 128 255 b) h)
 
 module _ (ws : List ℕ) where
-  abbrev seen : State → View
-  seen state = record {
-    name = numbersAt 20 (getD ws 3 0) ws;
-    state = state;
-    queue = map entryAt (numbersAt 4 (getD ws 2 0) ws);
-    last = lastAt (getD ws 1 0);
-  }
-
   -- the numbers of a sound channel fit
   sound-fits : isSound (viewOf ws) ≡ true → (queueFits ws ≡ true) × (nameFits ws ≡ true)
   unfolding viewOf
@@ -175,14 +167,14 @@ module _ (ws : List ℕ) where
       go : (o : Option State) → stateAt (getD ws 0 0) ≡ o → isSound (viewAt ws o) ≡ true → (queueFits ws ≡ true) × (nameFits ws ≡ true)
       go none p e = absurd (false≢true e)
       go (some state) p e =
-          let f = sound-facts (seen state) e in
+          let f = sound-facts _ e in
           let range : firstAbove (lastAt (getD ws 1 0)) ≤ 4294967296 = f .in-range in
           let last : getD ws 1 0 ≤ 4294967296 = omega (arith, range, above-is (getD ws 1 0)) in
           let few : length (map entryAt (numbersAt 4 (getD ws 2 0) ws)) ≤ 16 = f .few in
           let count : getD ws 2 0 ≤ 16 = rw (length-map, numbers-count 4 (getD ws 2 0) ws) at few in
           let short = name-fits (numbersAt 20 (getD ws 3 0) ws) (f .named) in
           let size : getD ws 3 0 ≤ 44 = rw (numbers-count 20 (getD ws 3 0) ws) at short in
-          let entries : all isEntry (numbersAt 4 (getD ws 2 0) ws) ≡ true = small-entries (numbersAt 4 (getD ws 2 0) ws) (small-by (held (seen state)) (held-small f)) in
+          let entries : all isEntry (numbersAt 4 (getD ws 2 0) ws) ≡ true = small-entries (numbersAt 4 (getD ws 2 0) ws) (small-by (ids (map entryAt (numbersAt 4 (getD ws 2 0) ws))) (held-small f)) in
           let bytes : all isByte (numbersAt 20 (getD ws 3 0) ws) ≡ true = all-of isValue isByte value-byte (numbersAt 20 (getD ws 3 0) ws) (S.name-fits (numbersAt 20 (getD ws 3 0) ws) (f .named) .values) in (
             rw (le-leb (getD ws 0 0) 2 (state-within (getD ws 0 0) state p), le-leb (getD ws 1 0) 4294967296 last, le-leb (getD ws 2 0) 16 count, entries),
             rw (le-leb (getD ws 3 0) 44 size, bytes),
@@ -213,5 +205,5 @@ module _ (ws : List ℕ) where
             let seen-last = l (leb-true (getD ws 1 0) 4294967296 (each .1)) in
             let is : viewOf ws ≡ some (view last c) =
             ap (viewAt ws) state
-            ∙ (λ i. some (record { name = sym (n .fit f) i; state = c .state; queue = sym (q .fit e) i; last = sym seen-last i })) in
+            ∙ rw (n .fit f, q .fit e, seen-last) in
             record { soundness = ap isSound is; same = λ z. is }

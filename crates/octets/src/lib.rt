@@ -1,9 +1,10 @@
 // What a byte may be: document 01, "Fields".
 ghost use mathlib.Core.Path.{_≡_};
+ghost use mathlib.Core.Bool.{_||_};
 ghost use Prim.Native.Nat.{_+_, _≤_};
 ghost use lib.ListN.{length, drop};
 ghost use Rattle.lists.specs.Lists.{same};
-ghost use Rattle.octets.specs.Octets.{isDigit, lowered as loweredOf, alike as alikeOf, classes};
+ghost use Rattle.octets.specs.Octets.{isDigit, lowered as loweredOf, alike as alikeOf, classes, isCapital, isLetter, within};
 ghost use Rattle.octets.specs.Steps.{packed};
 
 // The bits of a byte's class.
@@ -284,6 +285,8 @@ pub fn table() -> [u8; 256]
     CLASS
 }
 
+// Three tests by their bounds, where taking the table would cost more: framing, start lines and names of channels test a
+// few bytes of a message. That the bounds say what the table says is computed over all 256 bytes.
 pub fn is_digit(b: u8) -> bool
     ensures { λ r. ⌜ r ≡ isDigit b ⌝ }
 {
@@ -291,6 +294,36 @@ pub fn is_digit(b: u8) -> bool
         return false;
     }
     b <= 57
+}
+
+pub fn is_capital(b: u8) -> bool
+    ensures { λ r. ⌜ r ≡ isCapital b ⌝ }
+{
+    if b < b'A' {
+        return false;
+    }
+    b <= b'Z'
+}
+
+fn within(from: u8, to: u8, b: u8) -> bool
+    ensures { λ r. ⌜ r ≡ within from to b ⌝ }
+{
+    if b < from {
+        return false;
+    }
+    b <= to
+}
+
+pub fn is_letter_or_digit(b: u8) -> bool
+    ensures { λ r. ⌜ r ≡ (isLetter b || isDigit b) ⌝ }
+{
+    if within(b'A', b'Z', b) {
+        return true;
+    }
+    if within(b'a', b'z', b) {
+        return true;
+    }
+    within(b'0', b'9', b)
 }
 
 // A capital as its small letter, any other byte as it is.

@@ -13,3 +13,12 @@ delivered bs out = elim (ltb (length out) (length bs)) [ true ↦ out | false �
 -- what is returned of it
 unfoldable pub counted : List ℕ → List ℕ → Written
 counted bs out = elim (ltb (length out) (length bs)) [ true ↦ Written.TooLong | false ↦ Written.Count (length bs) ]
+
+-- the paper's number of each case, and the count written
+abbrev pub numberOf : Written → ℕ
+numberOf (Written.Count n) = 0
+numberOf Written.TooLong = 7
+
+abbrev pub writtenOf : Written → ℕ
+writtenOf (Written.Count n) = n
+writtenOf Written.TooLong = 0

@@ -93,7 +93,7 @@ fn named(f: &[u8], at: usize) -> StartLine
     if f.len() <= at {
         return StartLine::Malformed;
     }
-    if !startwords::is_capital(f[at]) {
+    if !octets::is_capital(f[at]) {
         return StartLine::Malformed;
     }
     let end = startwords::name_end(f, at);

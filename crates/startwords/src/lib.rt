@@ -3,7 +3,6 @@ ghost use mathlib.Core.Path.{_≡_};
 ghost use Prim.Native.Nat.{_+_};
 ghost use lib.ListN.{drop};
 ghost use Rattle.lists.specs.Lists.{run};
-ghost use Rattle.octets.specs.Octets.{isCapital};
 ghost use Rattle.startwords.specs.Runs.{isNaming, idAt, begins, lastAt};
 
 // The greatest request-id: document 01, "Numbers".
@@ -40,15 +39,6 @@ fn text(f: &[u8], at: usize, t: &[u8]) -> bool
     true
 }
 
-pub fn is_capital(b: u8) -> bool
-    ensures { λ r. ⌜ r ≡ isCapital b ⌝ }
-{
-    if b < b'A' {
-        return false;
-    }
-    b <= b'Z'
-}
-
 // A byte of a name.
 fn is_naming(b: u8) -> bool
     ensures { λ r. ⌜ r ≡ isNaming b ⌝ }
@@ -56,7 +46,7 @@ fn is_naming(b: u8) -> bool
     if b == b'-' {
         return true;
     }
-    is_capital(b)
+    octets::is_capital(b)
 }
 
 // The end of the name bytes at `at`.

@@ -17,7 +17,7 @@ use Rattle.answer.specs.IdList.{isIdList, idsOf, behindCommas, idListText}
 use Rattle.answer.specs.Answers as A
 use Rattle.answer.specs.Answers.{speakComplete}
 use Rattle.ledger.specs.Ledger.{Exchange, after, trace}
-use Rattle.synth.specs.Channel.{View, wellNamed, sound}
+use Rattle.synth.specs.Channel.{View, withQueue, withLast, fresh, wellNamed, sound}
 use Rattle.synth.specs.Request.{Request, methodOf, acting, ignoresAny}
 use Rattle.synth.specs.Judgement.{_then_, unless, version, wellFormed, addressed, ours, above, legal, amongSix, valid, content, capacity, success, early, late}
 use Rattle.synth.specs.States.{Outcome, act, judge}
@@ -41,7 +41,7 @@ opened name = openChannel (bytes name) .channel
 
 -- a channel of that name, in that state, with these requests outstanding: the one place that spells a channel for a table
 abbrev pub channel : String → State → List Entry → LastId → View
-channel name state queue last = record { name = bytes name; state = state; queue = queue; last = last }
+channel name state queue last = withLast last (withQueue state queue (fresh (bytes name)))
 
 -- an outstanding request that barge-in kills, and one that it spares
 abbrev pub killed : ℕ → Entry

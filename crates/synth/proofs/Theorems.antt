@@ -10,3 +10,4 @@ pub mod Soundness
 pub mod Room
 pub mod OnlyResume
 pub mod Demand3
+pub mod LedgerRules

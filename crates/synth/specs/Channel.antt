@@ -19,7 +19,7 @@ pub record View : Type 0 where
   pub queue : List Entry
   pub last : LastId
 
--- the only places that spell a whole view: with another state and queue, and with another last id
+-- with another state and queue, and with another last id: all else of a view stays
 abbrev pub withQueue : State → List Entry → View → View
 withQueue state queue v = record { name = v .name; state = state; queue = queue; last = v .last }
 

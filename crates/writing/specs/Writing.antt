@@ -9,6 +9,7 @@ use Rattle.message.specs.declared.RequestState.{RequestState}
 use Rattle.message.specs.declared.RequestState.the-variants.{Pending, InProgress, Complete}
 use Rattle.answer.specs.Written as W
 use Rattle.answer.specs.Answers.{response, speakComplete}
+use Rattle.output.specs.Delivery.{numberOf, writtenOf}
 use Rattle.output.specs.declared.Written.{Written}
 
 -- a call's number, the place lent for the count written, and the lent output, as it leaves them
@@ -30,8 +31,7 @@ pub record Told : Type 0 where
   pub written : List ℕ
 
 abbrev pub told : Written → List ℕ → Told
-told (Written.Count n) place = record { number = 0; written = set place 0 n }
-told Written.TooLong place = record { number = 7; written = set place 0 0 }
+told w place = record { number = numberOf w; written = set place 0 (writtenOf w) }
 
 -- the request state with a number, as include/klarvesimo.h numbers them
 abbrev pub stateAt : ℕ → Option RequestState

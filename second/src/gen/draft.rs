@@ -175,7 +175,7 @@ pub fn sample(random: &mut Random) -> Draft {
     for _ in 0..random.weighted(&[30, 30, 20, 10, 5]) {
         let field = random.pick(&SOME_FIELDS);
         let name = field_name(field);
-        // A known name twice is one of the bends.
+        // A known name twice is damage of its own.
         let mut others = draft.fields.iter();
         if !others.any(|other| field_name(other).eq_ignore_ascii_case(name)) {
             draft.fields.push(field.to_vec());

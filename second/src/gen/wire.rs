@@ -1,7 +1,7 @@
 //! Inputs for framing and for reading alone.
 
 use super::batch::Batch;
-use super::bend::{bend, bend_bytes, other_byte, stated_length, version};
+use super::damage::{damage, damage_bytes, other_byte, stated_length, version};
 use super::draft::{sample, Draft, Length};
 use super::random::Random;
 
@@ -17,7 +17,7 @@ pub fn frames(batch: &mut Batch, random: &mut Random) {
         2 => batch.frame(&opening_and_more(random)),
         3 => {
             let mut bytes = opening(random);
-            bend_bytes(&mut bytes, random);
+            damage_bytes(&mut bytes, random);
             batch.frame(&bytes);
         }
         4 => batch.frame(&message(random)),
@@ -50,7 +50,7 @@ pub fn reads(batch: &mut Batch, random: &mut Random) {
         _ => {
             let draft = sample(random);
             let mut rest = draft.rest();
-            bend_bytes(&mut rest, random);
+            damage_bytes(&mut rest, random);
             batch.read(&draft.framed(&rest));
         }
     }
@@ -65,22 +65,22 @@ pub fn noise(random: &mut Random) -> Vec<u8> {
     }
 }
 
-/// A sound or bent message, with more bytes behind it at times.
+/// A sound or damaged message, with more bytes behind it at times.
 pub fn message(random: &mut Random) -> Vec<u8> {
     let mut draft = sample(random);
     for _ in 0..random.weighted(&[35, 45, 15, 5]) {
-        bend(&mut draft, random);
+        damage(&mut draft, random);
     }
     let mut bytes = match random.chance(15) {
         true => {
             let mut rest = draft.rest();
-            bend_bytes(&mut rest, random);
+            damage_bytes(&mut rest, random);
             draft.framed(&rest)
         }
         false => draft.bytes(),
     };
     match random.below(20) {
-        0 | 1 => bend_bytes(&mut bytes, random),
+        0 | 1 => damage_bytes(&mut bytes, random),
         2 => bytes.extend(noise(random)),
         3 => bytes.extend(sample(random).bytes()),
         _ => {}
@@ -145,7 +145,7 @@ fn long_message(random: &mut Random) -> Vec<u8> {
     draft.field(b"Content-Length", format!("{length:05}").as_bytes());
     draft.body = vec![b'b'; length];
     if random.chance(30) {
-        bend(&mut draft, random);
+        damage(&mut draft, random);
     }
     draft.bytes()
 }

@@ -3,8 +3,7 @@
 use super::batch::Batch;
 use super::random::Random;
 use crate::start_line::RequestState;
-use crate::states::Ids;
-use crate::writing::{Answer, Event, Outgoing};
+use crate::writing::{Answer, Event, Ids, Outgoing};
 
 const STATUSES: [u16; 12] = [200, 201, 401, 402, 404, 405, 406, 407, 408, 409, 410, 502];
 
@@ -16,13 +15,14 @@ const STATES: [RequestState; 3] = [
 
 const CAUSES: usize = 10;
 
-/// Every status in every state, lists of 0 to 16 ids of 1 to 10 digits, names of 1 to 32 letters and every cause come in turn.
+/// Every status in every state, lists of 0 to 16 ids of 1 to 10 digits, names
+/// of 1 to 32 letters and every cause come in turn.
 pub fn writes(batch: &mut Batch, random: &mut Random, turn: usize) {
     let mut name = random.letters(b"0123456789abcdefXYZ", 1 + turn % 32);
     name.extend_from_slice(b"@speechsynth");
     let id = id_of(random, 1 + turn % 10);
     let number = turn / 2;
-    if turn % 2 == 0 {
+    if turn.is_multiple_of(2) {
         let event = Event {
             id,
             cause: (number % CAUSES) as u32,

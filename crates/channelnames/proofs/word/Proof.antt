@@ -25,17 +25,17 @@ abbrev μ-loop : tie.MeasureT-loop
 loop-holds : tie.Need-loop-holds Inv-loop μ-loop
 loop-holds c = search needs
 
-shared-slice-read-letter-or-digit : tie.Need-shared-slice-read-letter-or-digit Inv-loop μ-loop
-shared-slice-read-letter-or-digit c = search needs
+shared-slice-read-is-letter-or-digit : tie.Need-shared-slice-read-is-letter-or-digit Inv-loop μ-loop
+shared-slice-read-is-letter-or-digit c = search needs
 
-letter-or-digit-requires : tie.Need-letter-or-digit-requires Inv-loop μ-loop
-letter-or-digit-requires c κs = search needs
+is-letter-or-digit-requires : tie.Need-is-letter-or-digit-requires Inv-loop μ-loop
+is-letter-or-digit-requires c κs = search needs
 
 returns : tie.Need-returns Inv-loop μ-loop
 returns c =
     let at = c .before .before .before .before in
     let name = at .before .before .args .name .now in
-    let no = sym (c .before .letter-or-digit .ensures) ∙ not-true (c .before .letter-or-digit .result) (c .if1 .taken) in
+    let no = sym (c .before .is-letter-or-digit .ensures) ∙ not-true (c .before .is-letter-or-digit .result) (c .if1 .taken) in
     (sym (at .loop .inv .1 ∙ run-stop test name (at .loop .i) (c .before .before .before .loop-test .taken) no), at .loop .inv .0)
 
 add-i : tie.Need-add-i Inv-loop μ-loop
@@ -48,7 +48,7 @@ loop-again : tie.Need-loop-again Inv-loop μ-loop
 loop-again c =
     let at = c .before .before .before .before in
     let name = at .before .before .args .name .now in
-    let yes = sym (c .before .letter-or-digit .ensures) ∙ not-false (c .before .letter-or-digit .result) (c .if1 .left) in
+    let yes = sym (c .before .is-letter-or-digit .ensures) ∙ not-false (c .before .is-letter-or-digit .result) (c .if1 .left) in
     (omega arith, at .loop .inv .1 ∙ run-step test name (at .loop .i) (c .before .before .before .loop-test .taken) yes)
 
 returns-2 : tie.Need-returns-2 Inv-loop μ-loop
@@ -64,8 +64,8 @@ word-spec =
     Inv-loop
     μ-loop
     loop-holds
-    shared-slice-read-letter-or-digit
-    letter-or-digit-requires
+    shared-slice-read-is-letter-or-digit
+    is-letter-or-digit-requires
     returns
     add-i
     loop-less

@@ -1,38 +1,200 @@
--- DEMAND 1 OF THE C FACE. Every call of `klarvesimo_handle` and `klarvesimo_report`, on any 64 numbers, with any input or cause and any output, is
--- answered as the table of refusals says, and a refusal leaves all that was lent as it was. Assumes nothing.
-use Prim.Native.Nat.{ℕ, zero, suc}
+-- DEMAND 1 OF THE C FACE. Every call of the six functions, on any 64 numbers, with any input or cause and any output,
+-- returns and leaves what the table of refusals says; a refusal leaves all but the counts as it was. Assumes nothing.
+use Prim.Native.Nat.{ℕ}
 use mathlib.Core.Path.{_≡_, refl, sym, ap, _∙_}
-use mathlib.Core.Bool.{false, false≢true}
+use mathlib.Core.Bool.{Bool, true, false, false≢true}
 use mathlib.Core.Option.{Option, none, some}
-use mathlib.Core.List.{List}
-use lib.Dec.{eqb}
-use lib.ListN.{length}
-use Rattle.ledger.specs.Ledger.{Turn}
-use Rattle.synth.specs.Channel.{View}
-use Rattle.synth.specs.Calls.{Lent, Reply, call}
-use Rattle.channelnumbers.specs.Numbers.{viewOf}
-use Rattle.klarvesimo.specs.Face.{keeping, turnFace, callOn, callFace}
-use Rattle.demands.specs.Demands.{Line, table, firstDue, outcome, stated}
-use Rattle.demands.specs.FromC.{lineFace, tableFace, Demand1OfTheFace}
-use Rattle.demands.proofs.Lines.{Gives, tabled}
+use mathlib.Core.List.{List, [], _∷_}
+use lib.Dec.{ltb}
+use lib.ListN.{length, take}
+use Rattle.framing.specs.Framing.{framing, frameLength}
+use Rattle.framing.specs.declared.Framing.{Framing}
+use Rattle.framing.specs.declared.Framing.the-variants.{More, NoMessage, TooLong, TooShort, Frame}
+use Rattle.message.specs.Message.{Start, Head, Reading, refused, message}
+use Rattle.message.specs.StartLines.{Started, started, startLine}
+use Rattle.message.specs.Reading.{fieldsFrom, readFrom, readFramed, reading}
+use Rattle.message.specs.declared.Span.{Span}
+use Rattle.messagenumbers.specs.Layout.{messageNumbers}
+use Rattle.firmware.specs.Face.{framed, frameFace, ReadFace, consuming, readAs, readFace, called}
+use Rattle.synth.specs.Channel.{View, wellNamed, sound, held}
+use Rattle.synth.specs.Calls.{input, cause, openChannel}
+use Rattle.channelnumbers.specs.Numbers.{numbersOf, viewOf}
+use Rattle.klarvesimo.specs.Face.{openFace, HeldFace, fitting, heldOn, heldFace, counted, reported, listed}
+use Rattle.demands.specs.Demands.{Line, given, table, firstDue, outcome, exact, stated}
+use Rattle.demands.specs.FromC.{handles, reports, lists, FromC, opens, frames, reads, on, returned, refusals}
+use Rattle.demands.specs.FromC.{seenAs, channelIn, frameNumbers, numbersIn, atFront, byLine, Demand1OfTheFace}
+use Rattle.demands.proofs.Faces.{handed-long, handed-fits, one-place, two-places, nameless}
+use Rattle.demands.proofs.Faces.{lineFace, call-by-table}
 
--- a refusal leaves the numbers as they were
-kept : (n : ℕ) (ws : List ℕ) (next : View) → eqb n 0 ≡ false → keeping n ws next ≡ ws
-kept zero ws next e = absurd (false≢true (sym e))
-kept (suc n) ws next e = refl
+-- what is promised of a call
+abbrev Tabled : FromC → Type 0
+Tabled c = returned c ≡ byLine (firstDue (refusals c)) c
 
-module _ (v : View) (ws : List ℕ) (lent : Lent) (out : List ℕ) where
-  by-line : (o : Option Line) (t : Turn View Reply) → Gives v (stated lent) (outcome v lent) o t → turnFace t ws out ≡ lineFace o v ws lent out
-  by-line none t e = ap (λ (t : Turn View Reply). turnFace t ws out) e
-  by-line (some l) t (e, not-0, _) =
-      ap (λ (t : Turn View Reply). turnFace t ws out) e
-      ∙ (λ i. record { number = l .number; channel = kept (l .number) ws v not-0 i; consumed = l .consumed; written = 0; out = out })
+opening : (name : List ℕ) → Tabled (opens name)
+opening name = go (wellNamed name) refl
+  where
+    go : (b : Bool) → wellNamed name ≡ b → Tabled (opens name)
+    go true e = unfold openFace openChannel refusals in rw (e, openFace, openChannel, refusals)
+    go false e = unfold openFace openChannel refusals in rw (e, openFace, openChannel, refusals)
 
-on : (o : Option View) (ws : List ℕ) (lent : Lent) (out : List ℕ) → callOn o ws lent out ≡ tableFace o ws lent out
-on none ws lent out = refl
-on (some v) ws lent out =
-    by-line v ws lent out (firstDue (table v lent (length out))) (call v (record { lent = lent; room = length out })) (tabled v lent (length out))
+-- by the line that is due
+by : (c : FromC) (o : Option Line) → firstDue (refusals c) ≡ o → returned c ≡ byLine o c → Tabled c
+by c o e p = p ∙ ap (λ (o : Option Line). byLine o c) (sym e)
+
+abbrev roomLine : Option Line
+roomLine = some (given 7 true 0)
+
+-- framing, by its cases, and where there is a frame by whether its four numbers fit
+module _ (s out : List ℕ) where
+  framed-fits : (a b k n : ℕ) → framing s ≡ Frame a b k n → (c : Bool) → ltb (length out) 4 ≡ c → Tabled (frames s out)
+  unfolding frameFace refusals
+  framed-fits a b k n f true c =
+      by (frames s out) roomLine (rw (f, c, refusals))
+      (ap (λ (x : Framing). framed x out) f ∙ handed-long (a ∷ b ∷ k ∷ n ∷ []) out c)
+  framed-fits a b k n f false c =
+      by (frames s out) none (rw (f, c, refusals))
+      (ap (λ (x : Framing). framed x out) f ∙ handed-fits (a ∷ b ∷ k ∷ n ∷ []) out c
+      ∙ ap (λ (x : Framing). record { number = 0; out = atFront (frameNumbers x) out }) (sym f))
+
+  by-framing : (x : Framing) → framing s ≡ x → Tabled (frames s out)
+  unfolding frameFace refusals
+  by-framing More f = rw (f, frameFace, refusals)
+  by-framing NoMessage f = rw (f, frameFace, refusals)
+  by-framing TooLong f = rw (f, frameFace, refusals)
+  by-framing TooShort f = rw (f, frameFace, refusals)
+  by-framing (Frame a b k n) f = framed-fits a b k n f (ltb (length out) 4) refl
+
+-- reading, by framing, by the start line, and by whether the message's numbers fit
+module _ (s out consumed : List ℕ) (place : length consumed ≡ 1) where
+  read-as : (r : ReadFace) → readFace s out ≡ r
+      → returned (reads s out consumed) ≡ record { number = r .number; consumed = r .consumed ∷ []; out = r .out }
+  read-as r e =
+      ap (called consumed) e
+      ∙ (λ i. record { number = r .number; consumed = one-place consumed (r .consumed) place i; out = r .out })
+
+  -- one of 1 to 5
+  refused-as : (number count : ℕ) → firstDue (refusals (reads s out consumed)) ≡ some (given number true count)
+      → reading s ≡ refused number count → Tabled (reads s out consumed)
+  unfolding readFace
+  refused-as number count e r =
+      by (reads s out consumed) (some (given number true count)) e
+      (read-as _ (ap (λ (x : Reading Span). readAs s x out) r))
+
+  module _ (a b k n : ℕ) (f : framing s ≡ Frame a b k n) where
+    abbrev head : Head
+    head = record { stated = n; major = a; minor = b }
+
+    module _ (st : Start Span) (at : ℕ) (g : startLine k (take n s) ≡ started st at)
+        (e : reading s ≡ message head st (fieldsFrom (take n s) at)) where
+      abbrev numbers : List ℕ
+      numbers = messageNumbers (take n s) head st (fieldsFrom (take n s) at)
+
+      message-fits : (c : Bool) → ltb (length out) (length numbers) ≡ c → Tabled (reads s out consumed)
+      unfolding readFace refusals
+      message-fits true c =
+          by (reads s out consumed) roomLine (rw (f, g, e, c, refusals))
+          (read-as _ (ap (λ (x : Reading Span). readAs s x out) e ∙ ap (consuming n) (handed-long numbers out c)))
+      message-fits false c =
+          by (reads s out consumed) none (rw (f, g, e, c, refusals))
+          (read-as _ (ap (λ (x : Reading Span). readAs s x out) e ∙ ap (consuming n) (handed-fits numbers out c))
+          ∙ (λ i. record {
+            number = 0;
+            consumed = frameLength (sym f i) ∷ [];
+            out = atFront (numbersIn s (sym e i)) out;
+          }))
+
+    by-start : (y : Started) → startLine k (take n s) ≡ y → reading s ≡ readFrom head (take n s) y
+        → Tabled (reads s out consumed)
+    unfolding refusals
+    by-start Started.malformed g e = refused-as 5 n (rw (f, g, refusals)) e
+    by-start (started st at) g e = message-fits st at g e _ refl
+
+  read-framed : (x : Framing) → framing s ≡ x → reading s ≡ readFramed s x → Tabled (reads s out consumed)
+  unfolding refusals
+  read-framed More f e = refused-as 1 0 (rw (f, refusals)) e
+  read-framed NoMessage f e = refused-as 2 0 (rw (f, refusals)) e
+  read-framed TooLong f e = refused-as 3 0 (rw (f, refusals)) e
+  read-framed TooShort f e = refused-as 4 0 (rw (f, refusals)) e
+  read-framed (Frame a b k n) f e = by-start a b k n f (startLine k (take n s)) refl e
+
+  read-tabled : Tabled (reads s out consumed)
+  unfolding reading
+  read-tabled = read-framed (framing s) refl refl
+
+-- handling and reporting, by the line that is due
+module _ (ws out : List ℕ) where
+  handled : (s counts : List ℕ) → length counts ≡ 2 → (o : Option Line)
+      → counted counts (lineFace o (channelIn ws) ws (input s) out) ≡ byLine o (on ws (handles s out counts))
+  handled s counts two (some l) = λ i.
+      record { number = l .number; channel = ws; counts = two-places counts (l .consumed) 0 two i; out = out }
+  handled s counts two none = λ i.
+      let v = channelIn ws in
+      record {
+        number = 0;
+        channel = numbersOf (outcome v (input s) .next);
+        counts = two-places counts (stated (input s)) (length (exact v (input s))) two i;
+        out = atFront (exact v (input s)) out;
+      }
+
+  reported-by : (n : ℕ) (written : List ℕ) → length written ≡ 1 → (o : Option Line)
+      → reported written (lineFace o (channelIn ws) ws (cause n) out) ≡ byLine o (on ws (reports n out written))
+  reported-by n written one (some l) = λ i.
+      record { number = l .number; channel = ws; written = one-place written 0 one i; out = out }
+  reported-by n written one none = λ i.
+      let v = channelIn ws in
+      record {
+        number = 0;
+        channel = numbersOf (outcome v (cause n) .next);
+        written = one-place written (length (exact v (cause n))) one i;
+        out = atFront (exact v (cause n)) out;
+      }
+
+-- listing, by whether the channel is sound and its ids fit
+module _ (ws ids count : List ℕ) (place : length count ≡ 1) where
+  list-as : (r : HeldFace) → heldFace ws ids ≡ r
+      → returned (on ws (lists ids count)) ≡ record { number = r .number; count = r .count ∷ []; ids = r .ids }
+  list-as r e =
+      ap (listed count) e
+      ∙ (λ i. record { number = r .number; count = one-place count (r .count) place i; ids = r .ids })
+
+  -- no channel, or one that is not sound
+  unsound : (o : Option View) → viewOf ws ≡ o → sound (seenAs o) ≡ false → Tabled (on ws (lists ids count))
+  unfolding heldFace refusals
+  unsound none e p =
+      by (on ws (lists ids count)) (some (given 21 true 0)) (rw (e, p, refusals))
+      (list-as _ (ap (λ (o : Option View). heldOn o ids) e))
+  unsound (some v) e p =
+      by (on ws (lists ids count)) (some (given 21 true 0)) (rw (e, p, refusals))
+      (list-as (record { number = 21; count = 0; ids = ids })
+      (ap (λ (o : Option View). heldOn o ids) e ∙ rw (p, heldOn)))
+
+  module _ (v : View) (e : viewOf ws ≡ some v) (p : sound v ≡ true) where
+    ids-fit : (c : Bool) → ltb (length ids) (length (held v)) ≡ c → Tabled (on ws (lists ids count))
+    unfolding heldFace refusals
+    ids-fit true c =
+        by (on ws (lists ids count)) roomLine (rw (e, p, c, refusals))
+        (list-as (record { number = 7; count = 0; ids = ids })
+        (ap (λ (o : Option View). heldOn o ids) e ∙ rw (p, heldOn) (rw (c, fitting))))
+    ids-fit false c =
+        by (on ws (lists ids count)) none (rw (e, p, c, refusals))
+        (list-as (record { number = 0; count = length (held v); ids = atFront (held v) ids })
+        (ap (λ (o : Option View). heldOn o ids) e ∙ rw (p, heldOn) (rw (c, fitting)))
+        ∙ ap (λ (o : Option View).
+        let l : List ℕ = held (seenAs o) in record { number = 0; count = length l ∷ []; ids = atFront l ids }) (sym e))
+
+  listed-on : (o : Option View) → viewOf ws ≡ o → (b : Bool) → sound (seenAs o) ≡ b → Tabled (on ws (lists ids count))
+  listed-on o e false p = unsound o e p
+  listed-on none e true p = absurd (false≢true (sym nameless ∙ p))
+  listed-on (some v) e true p = ids-fit v e p _ refl
 
 pub demand1-of-the-face : Demand1OfTheFace
-unfolding callFace
-demand1-of-the-face ws lent out = on (viewOf ws) ws lent out
+demand1-of-the-face (opens name) p = opening name
+demand1-of-the-face (frames s out) p = by-framing s out (framing s) refl
+demand1-of-the-face (reads s out consumed) p = read-tabled s out consumed p
+demand1-of-the-face (on ws (handles s out counts)) p =
+    ap (counted counts) (call-by-table ws (input s) out)
+    ∙ (unfold refusals in handled ws out s counts p (firstDue (table (channelIn ws) (input s) (length out))))
+demand1-of-the-face (on ws (reports n out written)) p =
+    ap (reported written) (call-by-table ws (cause n) out)
+    ∙ (unfold refusals in reported-by ws out n written p (firstDue (table (channelIn ws) (cause n) (length out))))
+demand1-of-the-face (on ws (lists ids count)) p = listed-on ws ids count p (viewOf ws) refl _ refl

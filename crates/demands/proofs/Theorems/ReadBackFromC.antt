@@ -1,13 +1,12 @@
--- What a handled call of the C face wrote is read as the very messages that were to be said: every message of an outcome is writable, and reading
--- inverts writing. Assumes nothing.
+-- What a handled call of the C face wrote is read as the very messages that were to be said: every message of an outcome
+-- is writable, and reading inverts writing. Assumes nothing.
 use Prim.Native.Nat.{ℕ, _≤_}
 use mathlib.Core.Path.{_≡_, refl, sym, ap, subst, _∙_}
 use mathlib.Core.Bool.{Bool, true, false}
 use mathlib.Core.Option.{Option, none, some}
 use mathlib.Core.List.{List, [], _∷_}
 use lib.Dec.{ltb}
-use lib.ListN.{length, take, drop}
-use lib.Seq.{take-append-seam}
+use lib.ListN.{length}
 use borrow.Author.Tests.{ltb-false}
 use Rattle.lists.specs.Lists.{All}
 use Rattle.lists.proofs.Membership.{elem-head}
@@ -19,16 +18,16 @@ use Rattle.answer.proofs.Theorems.AnswersWritable.{complete-writable}
 use Rattle.answer.proofs.Theorems.ListsReadBack.{all-back}
 use Rattle.synth.specs.Channel.{View, ids, sound}
 use Rattle.synth.specs.Request.{requestOf}
-use Rattle.synth.specs.Calls.{Lent, input, cause}
+use Rattle.ledger.specs.Ledger.{Turn}
+use Rattle.synth.specs.Calls.{Lent, input, cause, Call, Reply, call}
 use Rattle.synth.specs.declared.Entry.{Entry}
 use Rattle.synth.proofs.Channels.{Facts, sound-facts, held-small}
 use Rattle.synth.proofs.Methods.{judge-good}
 use Rattle.synth.proofs.Names.{name-fits}
-use Rattle.klarvesimo.specs.Face.{CallFace}
-use Rattle.demands.specs.Demands.{Line, table, firstDue, answering, ending, outcome, exact}
-use Rattle.demands.specs.FromC.{lineFace, tableFace, ReadBackOfTheFace}
-use Rattle.demands.proofs.Lines.{not-0}
-use Rattle.demands.proofs.Theorems.Demand1FromC.{demand1-of-the-face}
+use Rattle.demands.specs.Demands.{Line, table, firstDue, answering, ending, outcome, stated}
+use Rattle.demands.specs.FromC.{channelIn, ReadBackOfTheFace}
+use Rattle.demands.proofs.Lines.{Gives, tabled, not-0}
+use Rattle.demands.proofs.Theorems.Demand3FromC.{meets}
 
 abbrev Due : Option Line → Type 0
 Due none = ⊥
@@ -76,18 +75,20 @@ module _ (v : View) (room : ℕ) where
   writable (input s) e = answer-writable v (sound-facts v (sane (input s) e)) s (readBytes s) refl
   writable (cause n) e = event-writable v (sound-facts v (sane (cause n) e)) n (a-cause n e) (v .queue) refl
 
--- what a call that returned 0 wrote
-abbrev Back : View → Lent → CallFace → Type 0
-Back v lent f = f .number ≡ 0 → messagesIn (f .written) (take (f .written) (f .out)) ≡ outcome v lent .says
-
-by-line : (v : View) (ws : List ℕ) (lent : Lent) (out : List ℕ) (o : Option Line) → firstDue (table v lent (length out)) ≡ o
-    → Back v lent (lineFace o v ws lent out)
-by-line v ws lent out none e z =
-    let answer = exact v lent in
-    ap (messagesIn (length answer)) (take-append-seam answer (drop (length answer) out)) ∙ all-back (outcome v lent .says) (writable v (length out) lent e)
-by-line v ws lent out (some l) e z = absurd (not-0 v lent (length out) l e z)
+-- what the definition of a call gives, by the line that is due
+by-line : (v : View) (k : Call) (o : Option Line) → firstDue (table v (k .lent) (k .room)) ≡ o
+    → Gives v (stated (k .lent)) (outcome v (k .lent)) o (call v k) → call v k .reply .number ≡ 0
+    → (let bytes : List ℕ = call v k .reply .written in messagesIn (length bytes) bytes ≡ outcome v (k .lent) .says)
+by-line v k none e g z =
+    ap (λ (t : Turn View Reply). messagesIn (length (t .reply .written)) (t .reply .written)) g
+    ∙ all-back (outcome v (k .lent) .says) (writable v (k .room) (k .lent) e)
+by-line v k (some l) e g z =
+    absurd (not-0 v (k .lent) (k .room) l e (sym (ap (λ (t : Turn View Reply). t .reply .number) (g .0)) ∙ z))
 
 pub read-back-of-the-face : ReadBackOfTheFace
-read-back-of-the-face ws v lent out is =
-    subst (Back v lent) (sym (demand1-of-the-face ws lent out ∙ ap (λ (o : Option View). tableFace o ws lent out) is))
-    (by-line v ws lent out (firstDue (table v lent (length out))) refl)
+read-back-of-the-face ws k r next c z =
+    let v = channelIn ws in
+    let same = meets c .replies in
+    ap (λ (r : Reply). messagesIn (length (r .written)) (r .written)) same
+    ∙ by-line v k (firstDue (table v (k .lent) (k .room))) refl (tabled v (k .lent) (k .room))
+    (sym (ap (λ (r : Reply). r .number) same) ∙ z)

@@ -18,7 +18,7 @@ use Rattle.demands.proofs.Lines.{Gives, tabled}
 use Rattle.demands.proofs.Theorems.Demand3.{runs}
 
 -- a sound channel is not refused with 21
-not-21 : (v : View) (k : Call) → sound v ≡ true → call v k .reply .number ≡ 21 → ⊥
+pub not-21 : (v : View) (k : Call) → sound v ≡ true → call v k .reply .number ≡ 21 → ⊥
 not-21 v k s n = go (firstDue (table v (k .lent) (k .room))) (tabled v (k .lent) (k .room))
   where
     go : (o : Option Line) → Gives v (stated (k .lent)) (outcome v (k .lent)) o (call v k) → ⊥

@@ -68,7 +68,7 @@ returns c =
     let w = withQueue (a .state) (listOf (a .q)) v in
     let said = kill-yes (acting KillOnBargeIn (asked major minor Method.Speak (a .id) fs)) (sym (c .before .enum-told .given .1) ∙ asked-kill (c .before .before .before) v major minor fs told) in
     subst (Makes w (c .speak-content .result)) (sym (speak-legal w major minor (a .id) fs (said .0)))
-    (c .speak-content .ensures v major minor fs (told, asked-ignored (c .before .before .before .before .before) v major minor fs told, λ i. record { id = a .id; kill = said .1 i }))
+    (c .speak-content .ensures v major minor fs (told, asked-ignored (c .before .before .before .before .before) v major minor fs told, rw (said .1)))
 
 returns-2 : tie.Need-returns-2
 returns-2 c =
@@ -77,7 +77,7 @@ returns-2 c =
     let w = withQueue (a .state) (listOf (a .q)) v in
     let said = kill-no (acting KillOnBargeIn (asked major minor Method.Speak (a .id) fs)) (sym (c .before .enum-told2 .given .1) ∙ asked-kill (c .before .before .before) v major minor fs told) in
     subst (Makes w (c .speak-content2 .result)) (sym (speak-legal w major minor (a .id) fs (said .0)))
-    (c .speak-content2 .ensures v major minor fs (told, asked-ignored (c .before .before .before .before .before) v major minor fs told, λ i. record { id = a .id; kill = said .1 i }))
+    (c .speak-content2 .ensures v major minor fs (told, asked-ignored (c .before .before .before .before .before) v major minor fs told, rw (said .1)))
 
 returns-3 : tie.Need-returns-3
 returns-3 c =

@@ -1,4 +1,4 @@
-#include "fates.h"
+#include "prompts.h"
 
 #include <inttypes.h>
 #include <stdio.h>
@@ -10,7 +10,7 @@ static const char HELD[] = "still held";
 struct prompt {
   uint32_t id;
   int held;
-  char fate[80];
+  char became[80];
 };
 
 struct chapter {
@@ -33,25 +33,25 @@ static void *grow(void *list, size_t count, size_t size) {
   return grown;
 }
 
-void fates_chapter(char *title) {
+void prompts_chapter(char *title) {
   chapters = grow(chapters, chapter_count, sizeof *chapters);
   chapters[chapter_count++] = (struct chapter){title, prompt_count};
 }
 
-static void become(struct prompt *p, const char *fate, int held) {
+static void become(struct prompt *p, const char *became, int held) {
   p->held = held;
-  snprintf(p->fate, sizeof p->fate, "%s", fate);
+  snprintf(p->became, sizeof p->became, "%s", became);
 }
 
-static void add(uint32_t id, const char *fate, int held) {
+static void add(uint32_t id, const char *became, int held) {
   prompts = grow(prompts, prompt_count, sizeof *prompts);
   prompts[prompt_count].id = id;
-  become(&prompts[prompt_count++], fate, held);
+  become(&prompts[prompt_count++], became, held);
 }
 
-void fates_accepted(uint32_t id) { add(id, HELD, 1); }
+void prompts_accepted(uint32_t id) { add(id, HELD, 1); }
 
-void fates_add(uint32_t id, const char *fate) { add(id, fate, 0); }
+void prompts_add(uint32_t id, const char *became) { add(id, became, 0); }
 
 /* the latest prompt of the chapter that is held under this id */
 static struct prompt *held(uint32_t id) {
@@ -60,23 +60,23 @@ static struct prompt *held(uint32_t id) {
   return NULL;
 }
 
-void fates_close(const uint32_t *ids, size_t count, const char *fate) {
+void prompts_close(const uint32_t *ids, size_t count, const char *became) {
   for (size_t i = 0; i < count; i++) {
     struct prompt *p = held(ids[i]);
     if (p)
-      become(p, fate, 0);
+      become(p, became, 0);
     else
-      fates_add(ids[i], fate);
+      prompts_add(ids[i], became);
   }
 }
 
-void fates_write(void) {
+void prompts_write(void) {
   puts("What became of each prompt");
   for (size_t c = 0; c < chapter_count; c++) {
     size_t end = c + 1 < chapter_count ? chapters[c + 1].first : prompt_count;
     /* the time before any opening is worth a word only if something came then */
     if (chapters[c].first == end && chapter_count > 1) continue;
     printf("\n%s\n", chapters[c].title);
-    for (size_t i = chapters[c].first; i < end; i++) printf("  %10" PRIu32 "  %s\n", prompts[i].id, prompts[i].fate);
+    for (size_t i = chapters[c].first; i < end; i++) printf("  %10" PRIu32 "  %s\n", prompts[i].id, prompts[i].became);
   }
 }

@@ -1,8 +1,8 @@
--- `startwords::is_capital` meets its contract. Assumes nothing.
+-- `octets::is_capital` meets its contract. Assumes nothing.
 use borrow.Author.Needs.{needs}
 use borrow.Author.Tests.{lt-leb, le-leb}
-use Rattle.startwords.proofs.is_capital.Statement.{statement}
-use Rattle.startwords.proofs.is_capital.Tie as tie
+use Rattle.octets.proofs.is_capital.Statement.{statement}
+use Rattle.octets.proofs.is_capital.Tie as tie
 
 returns : tie.Need-returns
 returns c = rw (lt-leb 65 (c .before .args .b) (search needs))

@@ -1,11 +1,11 @@
-//! Bends: what is changed in a sound message, in its draft or in its bytes.
+//! Damage: what is changed in a sound message, in its draft or in its bytes.
 
 use super::draft::{field_name, Draft, Length, SOME_FIELDS};
 use super::random::Random;
 use crate::octets::without_blanks;
 
-/// One of the bends of a draft.
-pub fn bend(draft: &mut Draft, random: &mut Random) {
+/// Damages a draft in one of these ways.
+pub fn damage(draft: &mut Draft, random: &mut Random) {
     match random.below(13) {
         0 => stated_length(draft, random),
         1 => version(draft, random),
@@ -115,7 +115,7 @@ pub fn start_line(draft: &mut Draft, random: &mut Random) {
                 .pick(&[&b"\n"[..], b"\r", b"", b"\n\r", b"\r\r\n"])
                 .to_vec()
         }
-        2 => bend_bytes(&mut draft.line, random),
+        2 => damage_bytes(&mut draft.line, random),
         _ => draft.line = random.pick(&START_LINES).to_vec(),
     }
 }
@@ -265,7 +265,7 @@ pub fn blanks_and_case(draft: &mut Draft, random: &mut Random) {
 }
 
 /// One change in the bytes: another byte, one more, one less, a cut, a swap.
-pub fn bend_bytes(bytes: &mut Vec<u8>, random: &mut Random) {
+pub fn damage_bytes(bytes: &mut Vec<u8>, random: &mut Random) {
     if bytes.is_empty() {
         return bytes.push(random.byte());
     }

@@ -4,12 +4,12 @@
 //! the ids that are held and the exact size of each answer.
 
 use super::batch::Batch;
-use super::bend::stated_length;
+use super::damage::stated_length;
 use super::draft::{METHODS, UNKNOWN_METHODS};
 use super::random::Random;
+use super::request::Request;
 use super::unsound::{bad_name, broken, given, good_name, sound};
 use super::wire;
-use super::wish::Wish;
 use crate::channel::Channel;
 use crate::kept::Kept;
 
@@ -52,7 +52,7 @@ const FIRST_IDS: [u64; 14] = [
     4_294_967_295,
 ];
 
-struct Talk<'a> {
+struct Conversation<'a> {
     batch: &'a mut Batch,
     random: &'a mut Random,
     /// The channel that whoever plays the script will have.
@@ -66,22 +66,22 @@ struct Talk<'a> {
 pub fn calls(batch: &mut Batch, random: &mut Random) {
     let habit = random.pick(&HABITS);
     let channel = Channel::UNOPENED;
-    let mut talk = Talk {
+    let mut conversation = Conversation {
         batch,
         random,
         kept: Kept::of(&channel),
         channel,
         habit,
     };
-    match talk.random.weighted(&[66, 6, 10, 18]) {
-        0 => talk.conversation(),
-        1 => talk.after_refused_opening(),
-        2 => talk.given_channel(true),
-        _ => talk.given_channel(false),
+    match conversation.random.weighted(&[66, 6, 10, 18]) {
+        0 => conversation.conversation(),
+        1 => conversation.after_refused_opening(),
+        2 => conversation.given_channel(true),
+        _ => conversation.given_channel(false),
     }
 }
 
-impl Talk<'_> {
+impl Conversation<'_> {
     fn conversation(&mut self) {
         let name = good_name(self.random);
         self.open(&name);
@@ -161,8 +161,8 @@ impl Talk<'_> {
 
     fn request(&mut self, method: &str) {
         let id = self.next_id();
-        let wish = Wish::good(self.random, &self.channel, method, id);
-        self.send_wish(&wish);
+        let request = Request::good(self.random, &self.channel, method, id);
+        self.send_request(&request);
     }
 
     /// One judgement fails, or it and the next, or two of them.
@@ -181,24 +181,24 @@ impl Talk<'_> {
             false => self.random.pick(&any),
         };
         let id = self.next_id();
-        let mut wish = Wish::good(self.random, &self.channel, method, id);
+        let mut request = Request::good(self.random, &self.channel, method, id);
         // From the last to the first, so that the method is set before its values.
-        wish.spoil(self.random, &self.channel, first.max(second));
+        request.spoil(self.random, &self.channel, first.max(second));
         if first != second {
-            wish.spoil(self.random, &self.channel, first.min(second));
+            request.spoil(self.random, &self.channel, first.min(second));
         }
-        self.send_wish(&wish);
+        self.send_request(&request);
     }
 
-    fn send_wish(&mut self, wish: &Wish) {
-        let mut draft = wish.draft(self.random);
+    fn send_request(&mut self, request: &Request) {
+        let mut draft = request.draft(self.random);
         match self.random.weighted(&[94, 3, 3]) {
             0 => {}
             1 => draft.after = wire::noise(self.random),
             // A second message in the same input, which must wait.
             _ => {
                 let method = self.random.pick(&METHODS);
-                let next = Wish::good(self.random, &self.channel, method, wish.id + 1);
+                let next = Request::good(self.random, &self.channel, method, request.id + 1);
                 draft.after = next.draft(self.random).bytes();
             }
         }
@@ -231,8 +231,8 @@ impl Talk<'_> {
     fn anything(&mut self) {
         let id = self.next_id();
         let method = self.random.pick(&METHODS);
-        let wish = Wish::good(self.random, &self.channel, method, id);
-        let mut draft = wish.draft(self.random);
+        let request = Request::good(self.random, &self.channel, method, id);
+        let mut draft = request.draft(self.random);
         let bytes = match self.random.below(8) {
             0 => {
                 let mut bytes = draft.bytes();
@@ -244,7 +244,7 @@ impl Talk<'_> {
                 draft.bytes()
             }
             3 => {
-                super::bend::start_line(&mut draft, self.random);
+                super::damage::start_line(&mut draft, self.random);
                 draft.bytes()
             }
             4 => {
@@ -256,7 +256,7 @@ impl Talk<'_> {
                 draft.bytes()
             }
             6 => {
-                super::bend::bend(&mut draft, self.random);
+                super::damage::damage(&mut draft, self.random);
                 draft.bytes()
             }
             _ => wire::message(self.random),

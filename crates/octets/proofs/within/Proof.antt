@@ -1,7 +1,7 @@
--- `channelnames::within` is the test of the same name: one comparison, then the other. Assumes nothing.
+-- `octets::within` is the test of the same name: one comparison, then the other. Assumes nothing.
 use borrow.Author.Tests.{lt-leb, le-leb}
-use Rattle.channelnames.proofs.within.Statement.{statement}
-use Rattle.channelnames.proofs.within.Tie as tie
+use Rattle.octets.proofs.within.Statement.{statement}
+use Rattle.octets.proofs.within.Tie as tie
 
 returns : tie.Need-returns
 returns c = rw (lt-leb _ _ (c .if1 .taken))

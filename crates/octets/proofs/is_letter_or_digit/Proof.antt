@@ -1,8 +1,8 @@
--- `channelnames::letter_or_digit` asks for a capital, a small letter and a digit in turn. Assumes nothing.
+-- `octets::is_letter_or_digit` asks for a capital, a small letter and a digit in turn. Assumes nothing.
 use mathlib.Core.Path.{sym, _∙_}
 use borrow.Author.Needs.{needs}
-use Rattle.channelnames.proofs.letter_or_digit.Statement.{statement}
-use Rattle.channelnames.proofs.letter_or_digit.Tie as tie
+use Rattle.octets.proofs.is_letter_or_digit.Statement.{statement}
+use Rattle.octets.proofs.is_letter_or_digit.Tie as tie
 
 within-requires : tie.Need-within-requires
 within-requires c κs = search needs
@@ -24,7 +24,7 @@ returns-3 c =
     let at = c .before .before .before in
     rw (sym (at .before .within .ensures) ∙ at .if1 .left, sym (c .before .before .within2 .ensures) ∙ c .before .if2 .left, c .within3 .ensures)
 
-pub letter-or-digit-spec : {M : Type 1} → statement M
-letter-or-digit-spec =
+pub is-letter-or-digit-spec : {M : Type 1} → statement M
+is-letter-or-digit-spec =
     tie.close
     (tie.spec within-requires returns within-requires-2 returns-2 within-requires-3 returns-3)

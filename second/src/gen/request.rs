@@ -1,12 +1,12 @@
 //! Requests on a channel: good ones, and ones that fail a chosen judgement.
 
-use super::bend::{content_length, empty_line, malformed_line};
+use super::damage::{content_length, empty_line, malformed_line};
 use super::draft::{body, Draft, METHODS, UNKNOWN_METHODS};
 use super::random::Random;
 use crate::channel::Channel;
 
 /// A request in the making.
-pub struct Wish {
+pub struct Request {
     pub version: Vec<u8>,
     pub method: String,
     pub id: u64,
@@ -64,10 +64,10 @@ const UNUSED: [(&str, &str); 6] = [
 ];
 const VERSIONS: [&str; 7] = ["1.0", "2.1", "3.0", "0.2", "2.10", "20.0", "12.0"];
 
-impl Wish {
+impl Request {
     /// A request that passes judgements 1 to 7 and 9.
-    pub fn good(random: &mut Random, channel: &Channel, method: &str, id: u64) -> Wish {
-        let mut wish = Wish {
+    pub fn good(random: &mut Random, channel: &Channel, method: &str, id: u64) -> Request {
+        let mut request = Request {
             version: b"2.0".to_vec(),
             method: method.to_string(),
             id,
@@ -76,17 +76,17 @@ impl Wish {
             body: Vec::new(),
             malformed: false,
         };
-        wish.set("Channel-Identifier", channel.name.bytes());
+        request.set("Channel-Identifier", channel.name.bytes());
         match method {
-            "SPEAK" => wish.prompt(random),
+            "SPEAK" => request.prompt(random),
             "STOP" if random.chance(50) => {
                 let list = list(random, channel);
-                wish.set("Active-Request-Id-List", &list);
+                request.set("Active-Request-Id-List", &list);
             }
             _ => {}
         }
-        wish.decorate(random);
-        wish
+        request.decorate(random);
+        request
     }
 
     fn prompt(&mut self, random: &mut Random) {

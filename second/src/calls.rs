@@ -1,0 +1,100 @@
+//! The two calls on a channel: a client's message and an engine's report.
+
+use crate::channel::{Channel, State};
+use crate::framing::{frame, Frame};
+use crate::judgement::{judge, Request};
+use crate::message::start;
+use crate::refusal::Refusal;
+use crate::start_line::StartLine;
+use crate::writing::{Event, Outgoing};
+
+/// "Engine cause above 7" is refused.
+const LAST_CAUSE: u32 = 7;
+
+/// What a call returns: the number, the count consumed and the count written.
+#[derive(Clone, Copy, Debug, PartialEq, Eq)]
+pub struct Outcome {
+    pub number: u32,
+    pub consumed: usize,
+    pub written: usize,
+}
+
+impl Outcome {
+    pub fn refused(refusal: Refusal, consumed: usize) -> Outcome {
+        Outcome {
+            number: refusal.number(),
+            consumed,
+            written: 0,
+        }
+    }
+
+    fn handled(consumed: usize, written: usize) -> Outcome {
+        Outcome {
+            number: 0,
+            consumed,
+            written,
+        }
+    }
+}
+
+impl Channel {
+    /// One client message: 21 before all, 1 to 6 before 7.
+    pub fn handle(&mut self, input: &[u8], output: &mut [u8]) -> Outcome {
+        if !self.is_sound() {
+            return Outcome::refused(Refusal::NotSound, 0);
+        }
+        let frame = match frame(input) {
+            Err(refusal) => return Outcome::refused(refusal, 0),
+            Ok(frame) => frame,
+        };
+        let request = match request(&frame) {
+            Err(refusal) => return Outcome::refused(refusal, frame.length()),
+            Ok(request) => request,
+        };
+        let mut next = *self;
+        let answer = judge(&mut next, &request);
+        match Outgoing::Answer(answer).write(self.name.bytes(), output) {
+            None => Outcome::refused(Refusal::NoRoom, 0),
+            Some(written) => {
+                *self = next;
+                Outcome::handled(frame.length(), written)
+            }
+        }
+    }
+
+    /// One engine report: 21, then 9, then 8, then 7.
+    pub fn report(&mut self, cause: u32, output: &mut [u8]) -> Outcome {
+        if !self.is_sound() {
+            return Outcome::refused(Refusal::NotSound, 0);
+        }
+        if cause > LAST_CAUSE {
+            return Outcome::refused(Refusal::NoSuchCause, 0);
+        }
+        if self.state != State::Speaking {
+            return Outcome::refused(Refusal::NothingSpeaking, 0);
+        }
+        let mut next = *self;
+        let id = next.complete_active();
+        match Outgoing::Event(Event { id, cause }).write(self.name.bytes(), output) {
+            None => Outcome::refused(Refusal::NoRoom, 0),
+            Some(written) => {
+                *self = next;
+                Outcome::handled(0, written)
+            }
+        }
+    }
+}
+
+/// 5 for a malformed start line, 6 for a response or event.
+fn request<'a>(frame: &Frame<'a>) -> Result<Request<'a>, Refusal> {
+    match start(frame) {
+        None => Err(Refusal::StartLine),
+        Some((StartLine::Request { name, id }, block)) => Ok(Request {
+            version: frame.version,
+            name,
+            id,
+            block,
+        }),
+        Some(_) => Err(Refusal::NoRequest),
+    }
+}
