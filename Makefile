@@ -4,6 +4,7 @@
 # make build      the proved library, the host programs over it, the second program
 # make library    the proved library; where nothing of it has changed, nothing is done
 # make host       the library, and the programs over it in C: play, tell, board, inputs, bench
+# make arm        the library, and play and tell over it, for each ARM processor: below target/TARGET/
 # make second     the second program
 # make bench      what a call costs: instructions, against the second program, and bytes of stack
 # make soak       the library beside the second program on scripts from fresh seeds, for SECONDS=60
@@ -15,14 +16,21 @@
 # make uninstall  what `make install` puts there is removed: the same PREFIX and DESTDIR
 # make fmt        the sources of the crates and of the second program in their layout
 # make clean      removes target/: all is proved and built again
+# library, host, soak, bench and install take TARGET=aarch64-linux-gnu, arm-linux-gnueabihf or thumbv7em-none-eabihf
 VERSION = 0.1.0
 PREFIX = /usr/local
 SECONDS = 60
 COUNT = 300
 SEED = 1
 SECOND = target/second/release/second
-PRODUCT = target/staticlib/libklarvesimo.a target/staticlib/libfirmware.a
-LIBRARY = $(PRODUCT) target/staticlib/libwriting.a
+CRATES = klarvesimo firmware writing
+AT = target/staticlib
+HOST = target/host
+RUN = $(HOST)
+BUILT = play tell board inputs bench
+AR = ar
+PRODUCT = $(AT)/libklarvesimo.a $(AT)/libfirmware.a
+LIBRARY = $(CRATES:%=$(AT)/lib%.a)
 CFLAGS = -std=c99 -O2 -Wall -Wextra -Werror -Iinclude
 SCRIPTS = host/command.c host/channel.c host/script.c host/number.c host/message.c
 CHECKED = host/checked.c host/lend.c
@@ -32,33 +40,66 @@ TELL = host/tell.c host/readable.c host/prompts.c host/ledger.c host/usage.c $(S
 BOARD = host/board.c host/connection.c host/outbox.c host/names.c host/handled.c host/engine.c host/log.c host/now.c \
   host/usage.c host/message.c host/number.c host/readable.c
 BENCH = host/bench.c host/stack.c host/usage.c
-PROGRAMS = $(addprefix target/host/,play tell board inputs bench)
+PROGRAMS = $(addprefix $(HOST)/,play tell board inputs bench)
 INSTALLED = include/klarvesimo.h lib/libklarvesimo.a lib/pkgconfig/klarvesimo.pc
 
-.PHONY: all help build library host second bench soak fuzz check-fuzz mutants pictures install uninstall test fmt clean
-.PHONY: tools tools-second tools-install tools-test tools-bench tools-fuzz tools-soak absolute
+# for another processor: below target/TARGET/; there run/ has the programs as qemu runs them
+TARGETS = $(shell tools/build-target --list)
+ARM = aarch64-linux-gnu-gcc arm-linux-gnueabihf-gcc qemu-aarch64 qemu-arm
+HERE = all fuzz check-fuzz test
+ifdef TARGET
+ifeq ($(filter $(TARGET),$(TARGETS)),)
+$(error no TARGET '$(TARGET)'; those known: $(TARGETS))
+endif
+ifneq ($(filter $(HERE),$(or $(MAKECMDGOALS),all)),)
+$(error '$(MAKECMDGOALS)' is for this machine alone, and takes no TARGET)
+endif
+LINUX = $(if $(filter thumb%,$(TARGET)),arm-linux-gnueabihf,$(TARGET))
+QEMU = $(if $(filter aarch64%,$(TARGET)),qemu-aarch64,qemu-arm)
+AT = target/$(TARGET)
+HOST = $(AT)
+RUN = $(AT)/run
+BUILT = play tell
+CC = $(LINUX)-gcc
+AR = $(shell dirname "$$(dirname "$$(rt doc)")")/on/$(shell uname -m)/toolchain/bin/llvm-ar
+CFLAGS += -static
+# no system runs on a Cortex-M4, but its code is also that of an ARMv7-A: only the note of the profile is taken off
+ifneq ($(LINUX),$(TARGET))
+LIBRARY = $(CRATES:%=$(AT)/linux/lib%.a)
+endif
+endif
+
+.PHONY: all help build library host arm second bench soak fuzz check-fuzz mutants pictures install uninstall test fmt
+.PHONY: clean tools tools-host tools-second tools-install tools-test tools-arm tools-bench tools-fuzz tools-soak
+.PHONY: absolute
 
 all: host
 	@target/host/tell examples/transfer.script
 
 help:
-	@sed -n 's/^# \(make .*\)/\1/p' Makefile
+	@sed -n '1,/^[^#]/s/^# //p' Makefile
 
-build: tools tools-second host second
+build: tools-host tools-second host second
 
 # what a target needs beside the sources, looked for before anything is proved
 tools:
-	@tools/need rt $(firstword $(CC))
+	@tools/need rt $(if $(TARGET),,$(firstword $(CC)))
+
+tools-host: tools
+	@tools/need --install $(if $(TARGET),$(CC) $(QEMU))
 
 tools-second:
 	@tools/need cargo
 
 tools-install: tools
-	@tools/need ar
+	@tools/need $(AR)
 
-tools-test: tools tools-second
+tools-test: tools-host tools-second tools-arm
 	@tools/need gcc python3
-	@tools/need --install clang pkg-config nm
+	@tools/need --install clang pkg-config nm arm-none-eabi-gcc qemu-system-arm
+
+tools-arm:
+	@tools/need --install $(ARM)
 
 tools-bench:
 	@tools/need python3 objdump
@@ -73,40 +114,54 @@ tools-fuzz:
 
 # tools/group: where make is ended, what it started ends too
 library: tools
-	@tools/group tools/build-library klarvesimo firmware writing
+	@tools/group tools/build-library $(CRATES)
+ifdef TARGET
+	@tools/group tools/build-target $(TARGET) $(CRATES)
+endif
 
-host: $(PROGRAMS)
+host: tools-host $(BUILT:%=$(HOST)/%)
 
-target/host/play: $(PLAY)
-target/host/tell: $(TELL)
-target/host/board: $(BOARD)
-target/host/inputs: $(INPUTS)
-target/host/bench: $(BENCH)
-$(PROGRAMS): target/host/made-of
+arm: tools-arm library
+	@for target in $(TARGETS); do $(MAKE) --no-print-directory host TARGET=$$target || exit 1; done
+
+$(HOST)/play: $(PLAY)
+$(HOST)/tell: $(TELL)
+$(HOST)/board: $(BOARD)
+$(HOST)/inputs: $(INPUTS)
+$(HOST)/bench: $(BENCH)
+$(PROGRAMS): $(HOST)/made-of
 	@$(CC) $(CFLAGS) -o $@ $(filter %.c,$^) $(LIBRARY)
+ifdef TARGET
+	@mkdir -p $(RUN)
+	@printf '#!/bin/sh\nexec $(QEMU) "%s" "$$@"\n' '$(CURDIR)/$@' >$(RUN)/$(@F) && chmod +x $(RUN)/$(@F)
+endif
+
+$(AT)/linux/%.a: $(AT)/%.a
+	@mkdir -p $(@D)
+	@$(LINUX)-objcopy --remove-section .ARM.attributes $< $@
 
 # changes where one of these files has other bytes, has come or has gone, or the compiler is called otherwise
-target/host/made-of: library
-	@mkdir -p target/host
+$(HOST)/made-of: library $(LIBRARY)
+	@mkdir -p $(HOST)
 	@{ echo '$(CC) $(CFLAGS)'; sha256sum Makefile host/*.[ch] include/*.h $(LIBRARY); } >$@.new
 	@if cmp -s $@.new $@; then rm $@.new; else mv $@.new $@; fi
 
 # the six calls in one archive
-target/install/libklarvesimo.a: $(PRODUCT)
-	@rm -rf target/install && mkdir -p target/install
-	@cd target/install && for part in $(PRODUCT); do ar x ../../$$part; done && ar rcs libklarvesimo.a *.o && rm -f *.o
+$(AT)/install/libklarvesimo.a: $(PRODUCT)
+	@rm -rf $(@D) && mkdir -p $(@D)
+	@cd $(@D) && for part in $(PRODUCT:$(AT)/%=../%); do $(AR) x $$part; done && $(AR) rcs $(@F) *.o && rm -f *.o
 
-$(PRODUCT): library ;
+$(CRATES:%=$(AT)/lib%.a): library ;
 
 absolute:
 	@case '$(PREFIX)' in /*) ;; *) echo "install: PREFIX is no absolute path: '$(PREFIX)'" >&2; exit 2;; esac
 
-install: absolute tools-install target/install/libklarvesimo.a
+install: absolute tools-install $(AT)/install/libklarvesimo.a
 	@install -d '$(DESTDIR)$(PREFIX)/include' '$(DESTDIR)$(PREFIX)/lib/pkgconfig'
 	@install -m 644 include/klarvesimo.h '$(DESTDIR)$(PREFIX)/include'
-	@install -m 644 target/install/libklarvesimo.a '$(DESTDIR)$(PREFIX)/lib'
-	@sed 's|@PREFIX@|$(PREFIX)|; s|@VERSION@|$(VERSION)|' klarvesimo.pc.in >target/install/klarvesimo.pc
-	@install -m 644 target/install/klarvesimo.pc '$(DESTDIR)$(PREFIX)/lib/pkgconfig'
+	@install -m 644 $(AT)/install/libklarvesimo.a '$(DESTDIR)$(PREFIX)/lib'
+	@sed 's|@PREFIX@|$(PREFIX)|; s|@VERSION@|$(VERSION)|' klarvesimo.pc.in >$(AT)/install/klarvesimo.pc
+	@install -m 644 $(AT)/install/klarvesimo.pc '$(DESTDIR)$(PREFIX)/lib/pkgconfig'
 	@echo 'klarvesimo $(VERSION): installed below $(DESTDIR)$(PREFIX)'
 
 uninstall: absolute
@@ -116,11 +171,16 @@ uninstall: absolute
 second: tools-second
 	@CARGO_TARGET_DIR=target/second cargo build --release --offline --quiet --manifest-path second/Cargo.toml
 
+ifdef TARGET
+bench: tools-host tools-soak $(HOST)/bench
+	@tools/group tools/bench-target $(QEMU) $(HOST)/bench
+else
 bench: tools-bench build
 	@tools/group tools/bench target/host/bench $(SECOND) $(LIBRARY)
+endif
 
 soak: tools-soak build
-	@tools/group tools/soak target/soak target/host $(SECOND) $(SECONDS)
+	@tools/group tools/soak target/soak $(RUN) $(SECOND) $(SECONDS)
 
 fuzz: tools-fuzz build
 	@tools/group tools/fuzz target/fuzz target/staticlib target/host $(SECOND) $(SECONDS)

@@ -6,11 +6,10 @@
 #ifndef WRITING_H
 #define WRITING_H
 
-#include <stddef.h>
 #include <stdint.h>
 
-uint32_t klarvesimo_write_response(const uint8_t *name, size_t length, uint32_t id, uint32_t status, uint32_t state, const uint32_t *ids, size_t count,
-                                   uint8_t *out, size_t room, uint64_t *written);
-uint32_t klarvesimo_write_event(const uint8_t *name, size_t length, uint32_t id, uint32_t cause, uint8_t *out, size_t room, uint64_t *written);
+uint32_t klarvesimo_write_response(const uint8_t *name, uint64_t length, uint32_t id, uint32_t status, uint32_t state, const uint32_t *ids, uint64_t count,
+                                   uint8_t *out, uint64_t room, uint64_t *written);
+uint32_t klarvesimo_write_event(const uint8_t *name, uint64_t length, uint32_t id, uint32_t cause, uint8_t *out, uint64_t room, uint64_t *written);
 
 #endif

@@ -24,22 +24,33 @@
  *    if (klarvesimo_held(channel, ids, KLARVESIMO_MOST_HELD, &held) == 0)  // the prompts that are speaking or waiting
  *      for (uint64_t i = 0; i < held; i++) show_prompt(ids[i]);
  *
- * What the library needs:
+ * What the library needs, on each of the four targets that it is built for:
  *
- *  - x86-64 Linux, today: the archive holds machine code for that alone, called as the System V ABI says. It uses the
- *    SSE2 registers, which every x86-64 has;
- *  - memcpy and memset: the archive leaves no other name undefined;
- *  - a stack that is aligned to 16 bytes at each call, as that ABI says. C compilers see to it; assembly, and whoever
- *    sets up a thread's stack, must;
- *  - at most 4 KB of stack: klarvesimo_handle takes 2,712 bytes at most, whatever is lent, and the others less; what
- *    memcpy and memset take for themselves comes on top of that;
- *  - the red zone of that ABI: up to 128 bytes below the stack pointer are in use, so what interrupts a call and runs
- *    on its stack must leave them as they are;
+ *  - its own archive: machine code for one target is in each. Lengths and counts have 64 bits on all of them, so this
+ *    header is right for all;
+ *
+ *      x86-64 Linux             called as the System V ABI says; uses the SSE2 registers, which every x86-64 has
+ *      aarch64-linux-gnu        ARMv8-A, called as AAPCS64 says; uses the SIMD registers, which every ARMv8-A has
+ *      arm-linux-gnueabihf      ARMv7-A, called as AAPCS with VFP registers says; uses none of these
+ *      thumbv7em-none-eabihf    Cortex-M4F and later, no operating system; likewise
+ *
+ *  - memcpy and memset. The archive leaves no other name undefined on 64 bits. On 32 bits also __aeabi_uldivmod, which
+ *    libgcc has; on thumbv7em-none-eabihf, for memcpy and memset, their AEABI forms, which newlib has: __aeabi_memcpy,
+ *    __aeabi_memclr, each also with 4 and with 8 at its end, and __aeabi_memset4;
+ *  - a stack that is aligned at each call as the ABI says: to 16 bytes, on 32 bits to 8. C compilers see to it;
+ *    assembly, and whoever sets up a thread's stack, must;
+ *  - arrays of uint64_t aligned to 8 bytes, as C compilers do. Bytes may begin anywhere: on ARM they are also loaded by
+ *    words that are not aligned, so the processor must take that: as a Cortex-M4 does unless CCR.UNALIGN_TRP is set,
+ *    and a Cortex-A in normal memory unless SCTLR.A is set;
+ *  - at most 4 KB of stack. klarvesimo_handle takes the most, whatever is lent: 2,712 bytes on x86-64, 2,576 on
+ *    aarch64, 2,792 on arm, 2,576 on thumbv7em; what the functions named above take for themselves comes on top of
+ *    that;
+ *  - on x86-64 the red zone of that ABI: up to 128 bytes below the stack pointer are in use, so what interrupts a call
+ *    and runs on its stack must leave them as they are. There is none on ARM;
  *  - no heap, and no memory of its own: nothing in the archive can be written. */
 #ifndef KLARVESIMO_H
 #define KLARVESIMO_H
 
-#include <stddef.h>
 #include <stdint.h>
 
 #ifdef __cplusplus
@@ -91,7 +102,7 @@ enum {
   KLARVESIMO_FRAME_NUMBERS  /* how many numbers there are: a shorter out gets 7 */
 };
 /* 0, 1 to 4, or 7. */
-uint32_t klarvesimo_frame(const uint8_t *bytes, size_t count, uint64_t *out, size_t room);
+uint32_t klarvesimo_frame(const uint8_t *bytes, uint64_t count, uint64_t *out, uint64_t room);
 
 /* What does the message at the front of `bytes` say? Requests, responses and events alike. `consumed` gets the stated
  * length on 0 and 5, else 0. On 0 these numbers are in out; a place is the index of a byte of `bytes`, inside the
@@ -150,7 +161,7 @@ enum {
   KLARVESIMO_MOST = KLARVESIMO_HEAD + KLARVESIMO_FIELD_NUMBERS * KLARVESIMO_MOST_FIELDS
 };
 /* 0, 1 to 5, or 7. */
-uint32_t klarvesimo_read(const uint8_t *bytes, size_t count, uint64_t *out, size_t room, uint64_t *consumed);
+uint32_t klarvesimo_read(const uint8_t *bytes, uint64_t count, uint64_t *out, uint64_t room, uint64_t *consumed);
 
 /* A channel is these 64 numbers, which the caller keeps and hands in again. Any numbers at all may come in: a channel
  * is sound if its name is well formed (1 to 32 ASCII letters or digits, then `@speechsynth`), it is idle exactly when
@@ -173,7 +184,7 @@ enum { KLARVESIMO_IDLE = 0, KLARVESIMO_SPEAKING = 1, KLARVESIMO_PAUSED = 2 };
 
 /* Opens a channel: idle, with nothing outstanding and no request seen. 0; or 10, and then the name in the channel is
  * empty, so it is not sound. All 64 numbers are written in either case. */
-uint32_t klarvesimo_open(uint64_t *channel, const uint8_t *name, size_t length);
+uint32_t klarvesimo_open(uint64_t *channel, const uint8_t *name, uint64_t length);
 
 /* Handles the client's message at the front of `bytes`, and nothing past it: judges the request, does what it asks, and
  * writes the exact response to the front of out. A request that fails is handled too: its status is in the response,
@@ -185,7 +196,7 @@ enum {
                         * they were */
   KLARVESIMO_COUNTS    /* how many counts there are */
 };
-uint32_t klarvesimo_handle(uint64_t *channel, const uint8_t *bytes, size_t count, uint8_t *out, size_t room,
+uint32_t klarvesimo_handle(uint64_t *channel, const uint8_t *bytes, uint64_t count, uint8_t *out, uint64_t room,
                            uint64_t *counts);
 
 /* Why a prompt has ended, as the engine reports it. */
@@ -215,12 +226,12 @@ enum {
  *    one; else drop it;
  *  - where KLARVESIMO_NOT_SPEAKING is returned for the first held one, that is paused: keep the report, and give it
  *    again once the state is KLARVESIMO_SPEAKING. */
-uint32_t klarvesimo_report(uint64_t *channel, uint32_t cause, uint8_t *out, size_t room, uint64_t *written);
+uint32_t klarvesimo_report(uint64_t *channel, uint32_t cause, uint8_t *out, uint64_t room, uint64_t *written);
 
 /* The ids of the outstanding SPEAKs, in queue order, to the front of ids, and how many they are to `count`; the ids
  * past them stay as they were. 0; 7 where there are more than `room`; or 21. Where it is refused, `count` is set to 0.
  * KLARVESIMO_MOST_HELD of room never meet 7. */
-uint32_t klarvesimo_held(const uint64_t *channel, uint64_t *ids, size_t room, uint64_t *count);
+uint32_t klarvesimo_held(const uint64_t *channel, uint64_t *ids, uint64_t room, uint64_t *count);
 
 #ifdef __cplusplus
 }

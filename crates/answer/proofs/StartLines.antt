@@ -1,73 +1,29 @@
 -- A written start line reads as its start.
 use Prim.Native.Nat.{ℕ, _+_, _<_}
 use native.Mathlib.Omega.{arith}
-use mathlib.Core.Path.{_≡_, refl, ap, _∙_}
-use mathlib.Core.Bool.{Bool, true, false, _&&_, _||_, and-false}
+use mathlib.Core.Path.{_≡_, refl}
+use mathlib.Core.Bool.{Bool, true, false, _&&_, and-false}
 use mathlib.Core.Option.{some}
 use mathlib.Core.List.{List, [], _∷_, _++_}
-use lib.Dec.{eqb, leb}
+use lib.Dec.{leb}
 use lib.ListN.{length, drop}
 use borrow.Author.Tests.{leb-true, lt-leb}
 use Rattle.lists.specs.Lists.{all}
-use Rattle.octets.specs.Octets.{bytes, isDigit, isCapital}
-use Rattle.readers.specs.Words.{words, isRequestId}
+use Rattle.octets.specs.Octets.{isDigit, isCapital}
+use Rattle.readers.specs.Words.{isRequestId}
 use Rattle.lists.proofs.Tests.{both}
-use Rattle.readers.proofs.Words.{lacks, lacks-append, lacks-of, line-of, words-last, words-more}
+use Rattle.readers.proofs.Words.{line-of}
 use Rattle.writers.specs.Decimal.{digits, threeDigits}
 use Rattle.writers.proofs.Digits.{digits-all, digits-number, id-written, three-all, three-number, three-length}
 use Rattle.message.specs.Message.{Start, request, response, event}
-use Rattle.message.specs.StartLines.{startsCapital, isMethodName, isStatus, stateText, stateOf, twoWords, threeWords, startOf, started, startLine}
-use Rattle.message.specs.declared.RequestState.{RequestState}
-use Rattle.message.specs.declared.RequestState.the-variants.{Pending, InProgress, Complete}
+use Rattle.message.specs.StartLines.{isMethodName, isStatus, stateText, twoWords, threeWords, startOf, started, startLine}
+use Rattle.message.proofs.Worded.{Word, word, isNaming, name-word, state-word, state-back, Says, last, _before_}
 use Rattle.answer.specs.Written.{startText}
 use Rattle.answer.specs.Writable.{StartFits}
 use Rattle.answer.proofs.Places.{startPlaces, request-text, response-text, event-text}
 
--- ---- words, which no CR and no space is in
-
-record Word (w : List ℕ) : Type 0 where
-  oneLine : lacks 13 w ≡ true
-  oneWord : lacks 32 w ≡ true
-
-word : (test : ℕ → Bool) (w : List ℕ) → test 13 ≡ false → test 32 ≡ false → all test w ≡ true → Word w
-word test w e f a = record { oneLine = lacks-of test 13 w e a; oneWord = lacks-of test 32 w f a }
-
 digits-word : (n : ℕ) → Word (digits n)
 digits-word n = word isDigit (digits n) refl refl (digits-all n)
-
--- a byte of a name
-abbrev isNaming : ℕ → Bool
-isNaming x = isCapital x || eqb x 45
-
-name-word : (w : List ℕ) → isMethodName w ≡ true → Word w
-name-word w h = word isNaming w refl refl (both (startsCapital w && leb (length w) 32) (all isNaming w) h .1)
-
-state-word : (state : RequestState) → Word (stateText state)
-state-word Pending = word isNaming (bytes "PENDING") refl refl refl
-state-word InProgress = word isNaming (bytes "IN-PROGRESS") refl refl refl
-state-word Complete = word isNaming (bytes "COMPLETE") refl refl refl
-
--- a line, and the words that are in it
-record Says (l : List ℕ) (ws : List (List ℕ)) : Type 0 where
-  oneLine : lacks 13 l ≡ true
-  parted : words 32 l ≡ ws
-
-last : {w : List ℕ} → Word w → Says w (w ∷ [])
-last {w} a = record { oneLine = a .oneLine; parted = words-last 32 w (a .oneWord) }
-
-infixr 20 _before_
-_before_ : {w l : List ℕ} {ws : List (List ℕ)} → Word w → Says l ws → Says (w ++ 32 ∷ l) (w ∷ ws)
-_before_ {w} {l} a b = record {
-  oneLine = lacks-append 13 w (32 ∷ l) (a .oneLine) (b .oneLine);
-  parted = words-more 32 w l (a .oneWord) ∙ ap (_∷_ w) (b .parted);
-}
-
--- ---- what they mean
-
-state-back : (state : RequestState) → stateOf (stateText state) ≡ some state
-state-back Pending = refl
-state-back InProgress = refl
-state-back Complete = refl
 
 status-written : (n : ℕ) → n < 1000 → isStatus (threeDigits n) ≡ true
 status-written n h = rw (three-length n) (three-all n h)

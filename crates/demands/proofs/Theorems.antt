@@ -6,3 +6,4 @@ pub mod Demand3FromC
 pub mod SoundnessFromC
 pub mod HeldFromC
 pub mod ReadBackFromC
+pub mod WaitingFromC

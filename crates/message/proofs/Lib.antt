@@ -5,4 +5,6 @@ pub mod Parts
 pub mod Places
 pub mod Alike
 pub mod Refusals
+pub mod Worded
+mod Joined
 pub mod Theorems

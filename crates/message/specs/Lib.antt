@@ -1,5 +1,6 @@
 pub mod Message
 pub mod StartLines
+pub mod StartGrammar
 pub mod Fields
 pub mod Known
 pub mod Reading

@@ -21,8 +21,8 @@ use Rattle.synth.specs.Calls.{input, cause, openChannel}
 use Rattle.channelnumbers.specs.Numbers.{numbersOf, viewOf}
 use Rattle.klarvesimo.specs.Face.{openFace, HeldFace, fitting, heldOn, heldFace, counted, reported, listed}
 use Rattle.demands.specs.Demands.{Line, given, table, firstDue, outcome, exact, stated}
-use Rattle.demands.specs.FromC.{handles, reports, lists, FromC, opens, frames, reads, on, returned, refusals}
-use Rattle.demands.specs.FromC.{seenAs, channelIn, frameNumbers, numbersIn, atFront, byLine, Demand1OfTheFace}
+use Rattle.demands.specs.FromC.{FromC, opens, frames, reads, on, handles, reports, lists, Places, returned}
+use Rattle.demands.specs.FromC.{refusals, seenAs, channelIn, frameNumbers, numbersIn, atFront, byLine, Demand1OfTheFace}
 use Rattle.demands.proofs.Faces.{handed-long, handed-fits, one-place, two-places, nameless}
 use Rattle.demands.proofs.Faces.{lineFace, call-by-table}
 
@@ -198,3 +198,7 @@ demand1-of-the-face (on ws (reports n out written)) p =
     ap (reported written) (call-by-table ws (cause n) out)
     ∙ (unfold refusals in reported-by ws out n written p (firstDue (table (channelIn ws) (cause n) (length out))))
 demand1-of-the-face (on ws (lists ids count)) p = listed-on ws ids count p (viewOf ws) refl _ refl
+
+-- the same where it is known which line is the first that is due, or that none is
+pub where-due : (c : FromC) → Places c → (o : Option Line) → firstDue (refusals c) ≡ o → returned c ≡ byLine o c
+where-due c p o e = demand1-of-the-face c p ∙ ap (λ (o : Option Line). byLine o c) e

@@ -13,9 +13,9 @@ use Rattle.synth.specs.Channel.{held, sound}
 use Rattle.calls.proofs.Leaving.{queue-short}
 use Rattle.klarvesimo.specs.Face.{HeldCall}
 use Rattle.demands.specs.Demands.{firstDue}
-use Rattle.demands.specs.FromC.{lists, on, refusals, channelIn, atFront, byLine, HeldOfTheFace}
+use Rattle.demands.specs.FromC.{lists, on, refusals, channelIn, atFront, HeldOfTheFace}
 use Rattle.demands.proofs.Theorems.Soundness.{stays}
-use Rattle.demands.proofs.Theorems.Demand1FromC.{demand1-of-the-face}
+use Rattle.demands.proofs.Theorems.Demand1FromC.{where-due}
 use Rattle.demands.proofs.Theorems.Demand3FromC.{each-meets, demand3-of-the-face}
 use Rattle.demands.proofs.Theorems.SoundnessFromC.{opened-face}
 
@@ -35,6 +35,5 @@ none-due ws out count s room =
 pub held-of-the-face : HeldOfTheFace
 held-of-the-face name calls last out count opened run room place =
     let s = stays channelIn (each-meets run) (opened-face name opened) .0 in
-    demand1-of-the-face (on last (lists out count)) place
-    ∙ ap (λ o. byLine o (on last (lists out count))) (none-due last out count s room)
+    where-due (on last (lists out count)) place none (none-due last out count s room)
     ∙ ap (λ (ids : List ℕ). listing ids out) (sym (demand3-of-the-face name calls last run .open-held))

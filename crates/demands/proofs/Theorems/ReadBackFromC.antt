@@ -1,5 +1,5 @@
--- What a handled call of the C face wrote is read as the very messages that were to be said: every message of an outcome
--- is writable, and reading inverts writing. Assumes nothing.
+-- What a handled call of the C face wrote is read as the very messages that were to be said: every message of an
+-- outcome is writable, and reading inverts writing. Assumes nothing.
 use Prim.Native.Nat.{ℕ, _≤_}
 use mathlib.Core.Path.{_≡_, refl, sym, ap, subst, _∙_}
 use mathlib.Core.Bool.{Bool, true, false}
