@@ -1,4 +1,4 @@
-# make            build, and play the example conversation on the proved library
+# make            build, and play the example conversations on the proved library
 # make help       these lines
 # make test       the gate
 # make build      the proved library, the host programs over it, the second program
@@ -33,12 +33,12 @@ PRODUCT = $(AT)/libklarvesimo.a $(AT)/libfirmware.a
 LIBRARY = $(CRATES:%=$(AT)/lib%.a)
 CFLAGS = -std=c99 -O2 -Wall -Wextra -Werror -Iinclude
 SCRIPTS = host/command.c host/channel.c host/script.c host/number.c host/message.c
-CHECKED = host/checked.c host/lend.c
+CHECKED = host/checked.c host/lend.c host/score.c
 PLAY = host/play.c host/calls.c host/usage.c $(CHECKED) $(SCRIPTS)
 INPUTS = host/inputs.c host/input.c host/usage.c $(SCRIPTS)
-TELL = host/tell.c host/readable.c host/prompts.c host/ledger.c host/usage.c $(SCRIPTS)
+TELL = host/tell.c host/readable.c host/prompts.c host/ledger.c host/score.c host/usage.c $(SCRIPTS)
 BOARD = host/board.c host/connection.c host/outbox.c host/names.c host/handled.c host/engine.c host/log.c host/now.c \
-  host/usage.c host/message.c host/number.c host/readable.c
+  host/usage.c host/message.c host/number.c host/readable.c host/channel.c host/score.c
 BENCH = host/bench.c host/stack.c host/usage.c
 PROGRAMS = $(addprefix $(HOST)/,play tell board inputs bench)
 INSTALLED = include/klarvesimo.h lib/libklarvesimo.a lib/pkgconfig/klarvesimo.pc
@@ -74,7 +74,7 @@ endif
 .PHONY: absolute
 
 all: host
-	@target/host/tell examples/transfer.script
+	@for script in transfer confirmation; do target/host/tell examples/$$script.script || exit 1; done
 
 help:
 	@sed -n '1,/^[^#]/s/^# //p' Makefile

@@ -12,12 +12,14 @@
 #include "writing.h"
 
 #define CHANNEL_NAME "7f3a@speechsynth"
-#define IDENTIFIER "Channel-Identifier:" CHANNEL_NAME "\r\n"
+#define RECOGNIZER_NAME "7f3a@speechrecog"
+#define LONGEST_RECOGNIZER_NAME "0123456789abcdef0123456789abcdef@speechrecog"
 
 enum { MOST = 20000, ALL = KLARVESIMO_CHANNEL * sizeof(uint64_t) };
 
-static uint8_t message[MOST], out[KLARVESIMO_LONGEST_ANSWER];
+static uint8_t message[MOST], out[KLARVESIMO_LONGEST_REPORT];
 static size_t length;
+static const char *name = CHANNEL_NAME; /* of the channel that is prepared */
 static uint64_t prepared[KLARVESIMO_CHANNEL]; /* the channel as it is before each call */
 
 /* what a call is lent and gives: in no function's frame, so that the stack which is measured is the library's own */
@@ -34,7 +36,10 @@ static void message_is(const char *text, size_t size) {
 /* the SPEAK of T8 with further fields; size and length of the body as they are written */
 static void speak_of(const char *fields, const char *size, const char *body) {
   char text[1000];
-  snprintf(text, sizeof text, "MRCP/2.0 %s SPEAK 7\r\n" IDENTIFIER "Content-Type:text/plain\r\n%sContent-Length:%s\r\n\r\n", size, fields, body);
+  snprintf(text, sizeof text,
+           "MRCP/2.0 %s SPEAK 7\r\nChannel-Identifier:%s\r\n"
+           "Content-Type:text/plain\r\n%sContent-Length:%s\r\n\r\n",
+           size, name, fields, body);
   message_is(text, (size_t)atol(size));
 }
 
@@ -44,28 +49,38 @@ static void request(const char *method, unsigned id, const char *rest) {
   size_t size = 0;
   for (size_t stated = 0; stated == 0 || size != stated;) {
     stated = size;
-    size = (size_t)snprintf(text, sizeof text, "MRCP/2.0 %zu %s %u\r\n" IDENTIFIER "%s", stated, method, id, rest);
+    size = (size_t)snprintf(text, sizeof text, "MRCP/2.0 %zu %s %u\r\nChannel-Identifier:%s\r\n%s", stated, method, id,
+                            name, rest);
   }
   message_is(text, size);
 }
 
 static void speak(unsigned id) { request("SPEAK", id, "Content-Type:text/plain\r\nContent-Length:2\r\n\r\nHi"); }
 
+static void recognize(unsigned id) {
+  request("RECOGNIZE", id,
+          "Content-Type:application/srgs+xml\r\nConfidence-Threshold:0.5\r\nContent-Length:2\r\n\r\nHi");
+}
+
 /* one call each */
 static void frames(void) { number = klarvesimo_frame(message, length, numbers, KLARVESIMO_FRAME_NUMBERS); }
 static void reads(void) { number = klarvesimo_read(message, length, numbers, KLARVESIMO_MOST, counts); }
 static void opens(void) { number = klarvesimo_open(channel, (const uint8_t *)CHANNEL_NAME, sizeof CHANNEL_NAME - 1); }
 static void handles(void) { number = klarvesimo_handle(channel, message, length, out, sizeof out, counts); }
-static void reports(void) { number = klarvesimo_report(channel, KLARVESIMO_CAUSE_NORMAL, out, sizeof out, counts); }
+static void reports(void) { number = klarvesimo_report(channel, KLARVESIMO_CAUSE_NORMAL, 0, out, sizeof out, counts); }
+static void reports_failure(void) {
+  uint32_t cause = KLARVESIMO_RECOGNITION_GRAMMAR_COMPILATION_FAILURE; /* the longest one's */
+  number = klarvesimo_report(channel, cause, 0, out, sizeof out, counts);
+}
 static void asks_held(void) { number = klarvesimo_held(channel, numbers, KLARVESIMO_MOST_HELD, counts); }
 static void responds(void) {
-  static const uint8_t name[] = CHANNEL_NAME;
-  number = klarvesimo_write_response(name, sizeof name - 1, 7, 200, KLARVESIMO_IN_PROGRESS, ids, 0, out, sizeof out,
+  static const uint8_t of[] = CHANNEL_NAME;
+  number = klarvesimo_write_response(of, sizeof of - 1, 7, 200, KLARVESIMO_IN_PROGRESS, ids, 0, out, sizeof out,
                                      counts);
 }
 static void responds_longest(void) {
-  static const uint8_t name[] = "0123456789abcdef0123456789abcdef@speechsynth";
-  number = klarvesimo_write_response(name, sizeof name - 1, UINT32_MAX, 200, KLARVESIMO_COMPLETE, ids,
+  static const uint8_t of[] = "0123456789abcdef0123456789abcdef@speechsynth";
+  number = klarvesimo_write_response(of, sizeof of - 1, UINT32_MAX, 200, KLARVESIMO_COMPLETE, ids,
                                      KLARVESIMO_MOST_HELD, out, sizeof out, counts);
 }
 
@@ -91,6 +106,13 @@ static void prepare_by(void (*call)(void)) {
 static void prepare(unsigned outstanding) {
   prepare_by(opens);
   for (unsigned id = 1; id <= outstanding; id++) speak(id), prepare_by(handles);
+}
+
+/* a recognizer with this many outstanding, from `first` on */
+static void prepare_recognizer(const char *named, unsigned first, unsigned outstanding) {
+  name = named;
+  number = klarvesimo_open(prepared, (const uint8_t *)name, strlen(name));
+  for (unsigned i = 0; i < outstanding; i++) recognize(first + i), prepare_by(handles);
 }
 
 /* a channel with one outstanding after so many calls: a SPEAK, and then SPEAK, CONTROL and a report in turn. The ids have one width. */
@@ -128,6 +150,9 @@ static void call_stop_list(void) {
   prepare(16);
   request("STOP", 17, "Active-Request-Id-List:16,15,14,13,12,11,10,9,8,7,6,5,4,3,2,1\r\n\r\n");
 }
+static void call_recognize(void) { prepare_recognizer(RECOGNIZER_NAME, 0, 0), recognize(7); }
+static void call_stop_8(void) { prepare_recognizer(RECOGNIZER_NAME, 1, 8), request("STOP", 9, "\r\n"); }
+static void eight_longest(void) { prepare_recognizer(LONGEST_RECOGNIZER_NAME, UINT32_MAX - 8, 8); }
 static void one_outstanding(void) { prepare(1); }
 static void sixteen_outstanding(void) { prepare(16); }
 static void call_after_1(void) { prepare_after(1); }
@@ -152,6 +177,7 @@ static uint64_t run_responds_longest(long count) { return sum_of(responds_longes
 static uint64_t run_opens(long count) { return sum_of(opens, channel + KLARVESIMO_CHANNEL_SIZE, 0, count); }
 static uint64_t run_handles(long count) { return sum_of(handles, counts + KLARVESIMO_WRITTEN, 1, count); }
 static uint64_t run_reports(long count) { return sum_of(reports, counts, 1, count); }
+static uint64_t run_reports_failure(long count) { return sum_of(reports_failure, counts, 1, count); }
 static uint64_t run_asks_held(long count) { return sum_of(asks_held, counts, 0, count); }
 
 static const struct bench {
@@ -175,6 +201,9 @@ static const struct bench {
     {"call-report-1", one_outstanding, reports, run_reports},
     {"call-report-16", sixteen_outstanding, reports, run_reports},
     {"call-held-16", sixteen_outstanding, asks_held, run_asks_held},
+    {"call-recognize", call_recognize, handles, run_handles},
+    {"call-stop-8", call_stop_8, handles, run_handles},
+    {"call-report-8", eight_longest, reports_failure, run_reports_failure},
     {"call-after-0001", call_after_1, handles, run_handles},
     {"call-after-1000", call_after_1000, handles, run_handles},
 };

@@ -1,11 +1,12 @@
-/* board [--name NAME] [--prompt MS] [--silence MS] PORT: serves one channel on a port of 127.0.0.1, one client after
- * the other; PORT 0 takes a free one.
+/* board [--name NAME] [--prompt MS] [--silence MS] PORT: serves one channel, a synthesizer's or a recognizer's as its
+ * name says, on a port of 127.0.0.1, one client after the other; PORT 0 takes a free one.
  *
  * The address is the one line on standard output; what else there is to say is the log, on standard error. The
- * speech engine is played: with --prompt a prompt ends normally after so many milliseconds of speaking, and a line
- * `report CAUSE [ID]` on standard input ends the active one. A report for which no client is there waits for the
- * next. SIGTERM, SIGINT or SIGHUP ends the board: it says which prompts were still held, and which messages no
- * client has got for certain. Status 2 for words that it cannot read, 1 where the system refuses something. */
+ * speech engine is played: with --prompt a prompt ends normally after so many milliseconds of speaking, and a
+ * recognition with a success of score 1; and a line `report CAUSE [ID]` on standard input ends the active one, on a
+ * recognizer `report CAUSE SCORE [ID]`. A report for which no client is there waits for the next. SIGTERM, SIGINT or
+ * SIGHUP ends the board: it says which requests were still held, and which messages no client has got for certain.
+ * Status 2 for words that it cannot read, 1 where the system refuses something. */
 #define _POSIX_C_SOURCE 200809L
 #include <arpa/inet.h>
 #include <errno.h>
@@ -20,6 +21,7 @@
 #include <sys/socket.h>
 #include <unistd.h>
 
+#include "channel.h"
 #include "connection.h"
 #include "engine.h"
 #include "log.h"
@@ -35,12 +37,14 @@ enum { LONGEST_PROMPT = 86400000, LONGEST_SILENCE = 86400000, KERNEL_QUEUE = 163
 enum { SILENCE = 300000, REST = 250 };
 
 static const char HELP[] = USAGE
-    "  --name NAME    the channel's name: 7f3a@speechsynth\n"
-    "  --prompt MS    how long the played engine speaks a prompt; without it only lines on standard input end one\n"
+    "  --name NAME    the channel's name: 7f3a@speechsynth; a recognizer's ends in @speechrecog\n"
+    "  --prompt MS    how long the played engine takes for a prompt or a recognition; without it only lines on\n"
+    "                 standard input end one\n"
     "  --silence MS   a client that neither sends nor takes a byte for so long makes room for the next: 300000;\n"
     "                 0 is for ever\n"
     "  PORT           of 127.0.0.1; 0 takes a free one\n"
-    "A line `report CAUSE [ID]` on standard input is the engine's report, of the prompt that speaks or of this one.\n";
+    "A line `report CAUSE [ID]` on standard input is the engine's report, of the prompt that speaks or of this one;\n"
+    "on a recognizer `report CAUSE SCORE [ID]`, such as `report 0 0.83`.\n";
 
 static uint64_t channel[KLARVESIMO_CHANNEL];
 static struct connection client = {.socket = -1, .silence = SILENCE};
@@ -83,6 +87,7 @@ static uint16_t begin(char **word) {
   if (word[1]) wrong_word(word[1], "a word too many");
   uint32_t number = klarvesimo_open(channel, (const uint8_t *)name, strlen(name));
   if (number) wrong_word(name, refusal_meaning(number));
+  engine.recognizes = channel_recognizes(channel);
   return (uint16_t)port;
 }
 
@@ -148,7 +153,7 @@ static void say_report(const char *what) {
   engine.said = 1;
   log_begin();
   log_add("report %" PRIu32, engine.cause);
-  if (engine.about) log_add(" of prompt %" PRIu64, engine.reported);
+  if (engine.about) log_add(" of %s %" PRIu64, engine_word(&engine), engine.reported);
   log_add(" %s", what);
   log_end();
 }
@@ -157,16 +162,16 @@ static void say_report_refused(uint32_t number) {
   log_line("report %" PRIu32 " refused %" PRIu32 ", %s", engine.cause, number, refusal_meaning(number));
 }
 
-/* The report that is due: whether it was made, or never will be. One that comes late would end another prompt than
+/* The report that is due: whether it was made, or never will be. One that comes late would end another request than
  * its own. */
 static int reports(int64_t now) {
   if (engine_late(&engine)) {
     engine.said = 0;
-    say_report("comes late: that is not the first prompt held");
+    say_report("comes late: that is not the first one held");
     engine_forget(&engine);
     return 1;
   }
-  uint32_t number = connection_report(&client, channel, engine.cause, now);
+  uint32_t number = connection_report(&client, channel, engine.cause, engine.score, now);
   int paused = number == KLARVESIMO_NOT_SPEAKING && engine.has;
   if (number == KLARVESIMO_NO_ROOM || paused) {
     say_report(paused ? "waits, since that is paused" : "waits for a client");

@@ -32,7 +32,7 @@ void play_message(const struct command *c) {
 }
 
 void play_report(const struct command *c) {
-  struct checked call = checked_report(c->cause, c->room);
+  struct checked call = checked_report(c->cause, c->score, c->room);
   printf("report %" PRIu32 " ", call.number);
   end_call(&call);
 }

@@ -1,6 +1,7 @@
 #include "channel.h"
 
 #include <inttypes.h>
+#include <string.h>
 
 size_t channel_name(const uint64_t *channel, uint8_t *name) {
   uint64_t size = channel[KLARVESIMO_CHANNEL_SIZE];
@@ -9,9 +10,23 @@ size_t channel_name(const uint64_t *channel, uint8_t *name) {
   return shown;
 }
 
+int channel_recognizes(const uint64_t *channel) {
+  static const char resource[] = "@speechrecog";
+  uint8_t name[KLARVESIMO_LONGEST_NAME];
+  size_t size = channel_name(channel, name), tail = strlen(resource);
+  return size >= tail && memcmp(name + size - tail, resource, tail) == 0;
+}
+
+size_t channel_places(const uint64_t *channel) {
+  return channel_recognizes(channel) ? KLARVESIMO_MOST_RECOGNITIONS : KLARVESIMO_MOST_HELD;
+}
+
 void channel_write_state(FILE *to, const uint64_t *channel) {
-  static const char *const words[] = {
-      [KLARVESIMO_IDLE] = "idle", [KLARVESIMO_SPEAKING] = "speaking", [KLARVESIMO_PAUSED] = "paused"};
+  static const char *const words[] = {[KLARVESIMO_IDLE] = "idle",
+                                      [KLARVESIMO_SPEAKING] = "speaking",
+                                      [KLARVESIMO_PAUSED] = "paused",
+                                      [KLARVESIMO_RECOGNIZING] = "recognizing",
+                                      [KLARVESIMO_RECOGNIZED] = "recognized"};
   uint64_t state = channel[KLARVESIMO_CHANNEL_STATE];
   if (state < sizeof words / sizeof *words)
     fputs(words[state], to);
@@ -27,13 +42,23 @@ void channel_write_last(FILE *to, const uint64_t *channel) {
     fprintf(to, "%" PRIu64, last - 1);
 }
 
+static void write_entry(FILE *to, const uint64_t *channel, uint64_t place) {
+  uint64_t entry = channel[KLARVESIMO_CHANNEL_QUEUE + place];
+  fprintf(to, "%" PRIu64, entry / 2);
+  if (channel_recognizes(channel))
+    fprintf(to, ":%08" PRIx32, (uint32_t)channel[KLARVESIMO_CHANNEL_THRESHOLDS + place]);
+  else
+    fputc(entry % 2 ? '+' : '-', to);
+}
+
 void channel_write_queue(FILE *to, const uint64_t *channel, const char *beyond) {
-  const uint64_t *queue = channel + KLARVESIMO_CHANNEL_QUEUE;
-  uint64_t count = channel[KLARVESIMO_CHANNEL_COUNT];
+  uint64_t count = channel[KLARVESIMO_CHANNEL_COUNT], places = channel_places(channel);
   if (count == 0) fputc('-', to);
-  for (uint64_t i = 0; i < count && i < KLARVESIMO_MOST_HELD; i++)
-    fprintf(to, "%s%" PRIu64 "%c", i > 0 ? "," : "", queue[i] / 2, queue[i] % 2 ? '+' : '-');
-  if (count > KLARVESIMO_MOST_HELD) fprintf(to, "%s%" PRIu64, beyond, count);
+  for (uint64_t i = 0; i < count && i < places; i++) {
+    if (i > 0) fputc(',', to);
+    write_entry(to, channel, i);
+  }
+  if (count > places) fprintf(to, "%s%" PRIu64, beyond, count);
 }
 
 void channel_write_numbers(FILE *to, const uint64_t *channel) {

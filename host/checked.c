@@ -5,6 +5,7 @@
 #include "channel.h"
 #include "lend.h"
 #include "message.h"
+#include "score.h"
 
 enum { ALL = KLARVESIMO_CHANNEL * sizeof(uint64_t) };
 
@@ -121,8 +122,8 @@ struct checked checked_held(size_t room) {
   uint64_t before[KLARVESIMO_CHANNEL], written;
   struct checked c = {0};
   memcpy(before, channel, ALL);
-  /* what is no cause is refused whatever the channel, but for one that is not sound */
-  uint32_t refused = klarvesimo_report(channel, KLARVESIMO_CAUSES, NULL, 0, &written);
+  /* what is no cause of either kind is refused whatever the channel, but for one that is not sound */
+  uint32_t refused = klarvesimo_report(channel, KLARVESIMO_RECOGNITION_CAUSES, 0, NULL, 0, &written);
   if (refused == KLARVESIMO_NOT_SOUND)
     c.number = KLARVESIMO_NOT_SOUND;
   else if (channel[KLARVESIMO_CHANNEL_COUNT] > room)
@@ -142,8 +143,11 @@ static int zero(size_t from, size_t to) {
 static int channel_agrees(uint32_t number, const uint64_t *before) {
   if (number) return memcmp(channel, before, ALL) == 0;
   uint64_t count = channel[KLARVESIMO_CHANNEL_COUNT], size = channel[KLARVESIMO_CHANNEL_SIZE];
-  return count <= KLARVESIMO_MOST_HELD && size <= KLARVESIMO_LONGEST_NAME &&
-         zero(KLARVESIMO_CHANNEL_QUEUE + (size_t)count, KLARVESIMO_CHANNEL_NAME) &&
+  size_t places = channel_places(channel);
+  if (count > places || size > KLARVESIMO_LONGEST_NAME) return 0;
+  return zero(KLARVESIMO_CHANNEL_QUEUE + (size_t)count, KLARVESIMO_CHANNEL_QUEUE + places) &&
+         (!channel_recognizes(channel) ||
+          zero(KLARVESIMO_CHANNEL_THRESHOLDS + (size_t)count, KLARVESIMO_CHANNEL_NAME)) &&
          zero(KLARVESIMO_CHANNEL_NAME + (size_t)size, KLARVESIMO_CHANNEL);
 }
 
@@ -155,21 +159,39 @@ static int names_channel(const uint8_t *bytes, const uint64_t *numbers) {
   return part && part[1] == size && memcmp(bytes + part[0], name, size) == 0;
 }
 
-/* what was written is read as a whole message of this kind, with this id and good fields */
-static int reads_back(const struct checked *c, uint64_t kind, uint64_t id) {
+/* the length of the message at the front of what was written, where it is of this kind, with this id and good fields;
+ * else 0 */
+static size_t reads_back(const uint8_t *bytes, size_t count, uint64_t kind, uint64_t id) {
   uint64_t numbers[KLARVESIMO_MOST], consumed;
-  return klarvesimo_read(c->out, (size_t)c->written, numbers, KLARVESIMO_MOST, &consumed) == 0 && consumed == c->written &&
-         numbers[KLARVESIMO_KIND] == kind && numbers[KLARVESIMO_ID] == id && numbers[KLARVESIMO_GOOD] == 1 && numbers[KLARVESIMO_MAJOR] == 2 &&
-         numbers[KLARVESIMO_MINOR] == 0 && numbers[KLARVESIMO_BODY_LENGTH] == 0 && names_channel(c->out, numbers);
+  int reads = klarvesimo_read(bytes, count, numbers, KLARVESIMO_MOST, &consumed) == 0 &&
+              numbers[KLARVESIMO_KIND] == kind && numbers[KLARVESIMO_ID] == id && numbers[KLARVESIMO_GOOD] == 1 &&
+              numbers[KLARVESIMO_MAJOR] == 2 && numbers[KLARVESIMO_MINOR] == 0 &&
+              numbers[KLARVESIMO_BODY_LENGTH] == 0 && names_channel(bytes, numbers);
+  return reads ? (size_t)consumed : 0;
+}
+
+/* what was written is an event for each request that the report has ended, from the active one on: one; or, on a
+ * recognizer, all */
+static int events_agree(const struct checked *c, const uint64_t *before) {
+  uint64_t held = before[KLARVESIMO_CHANNEL_COUNT], left = channel[KLARVESIMO_CHANNEL_COUNT];
+  size_t at = 0, length = 1;
+  if (held > KLARVESIMO_MOST_HELD || left >= held) return 0;
+  if (held - left > 1 && (left > 0 || !channel_recognizes(channel))) return 0;
+  for (uint64_t i = 0; i < held - left && length > 0; i++) {
+    uint64_t id = before[KLARVESIMO_CHANNEL_QUEUE + i] / 2;
+    at += length = reads_back(c->out + at, (size_t)c->written - at, KLARVESIMO_EVENT, id);
+  }
+  return length > 0 && at == c->written;
 }
 
 /* what an answer of handle is to have kept, beside the bytes of out past it */
 static int handle_agrees(const struct checked *c, const uint8_t *bytes, size_t count, const uint64_t *before) {
   uint64_t request[KLARVESIMO_MOST], consumed;
   if (c->consumed > count || c->consumed != consumed_by(c->number, bytes, count) || !channel_agrees(c->number, before)) return 0;
-  if (c->number == 0 && (klarvesimo_read(bytes, count, request, KLARVESIMO_MOST, &consumed) != 0 ||
-                         request[KLARVESIMO_KIND] != KLARVESIMO_REQUEST ||
-                         !reads_back(c, KLARVESIMO_RESPONSE, request[KLARVESIMO_ID])))
+  if (c->number == 0 &&
+      (klarvesimo_read(bytes, count, request, KLARVESIMO_MOST, &consumed) != 0 || c->written == 0 ||
+       request[KLARVESIMO_KIND] != KLARVESIMO_REQUEST ||
+       reads_back(c->out, (size_t)c->written, KLARVESIMO_RESPONSE, request[KLARVESIMO_ID]) != c->written))
     return 0;
   return held_agrees(c->number != KLARVESIMO_NOT_SOUND);
 }
@@ -199,15 +221,15 @@ struct checked checked_handle(const uint8_t *from, size_t count, size_t room) {
   return c;
 }
 
-struct checked checked_report(uint32_t cause, size_t room) {
+struct checked checked_report(uint32_t cause, uint32_t score, size_t room) {
   uint64_t before[KLARVESIMO_CHANNEL], *written = lend(COUNTS, sizeof *written);
   uint8_t *out = lend(OUTPUT, room);
   memcpy(before, channel, ALL);
-  struct checked c = {.number = klarvesimo_report(channel, cause, out, room, written), .out = out};
+  struct checked c = {.out = out};
+  c.number = klarvesimo_report(channel, cause, score_of_bits(score), out, room, written);
   if (!checked_written(c.number, out, *written, room)) return c;
   c.written = *written;
-  c.holds = channel_agrees(c.number, before) &&
-            (c.number != 0 || reads_back(&c, KLARVESIMO_EVENT, before[KLARVESIMO_CHANNEL_QUEUE] / 2)) &&
+  c.holds = channel_agrees(c.number, before) && (c.number != 0 || events_agree(&c, before)) &&
             held_agrees(c.number != KLARVESIMO_NOT_SOUND);
   return c;
 }

@@ -23,7 +23,7 @@ uint64_t *checked_channel(void);
 
 struct checked checked_open(const uint8_t *name, size_t length);
 struct checked checked_handle(const uint8_t *bytes, size_t count, size_t room);
-struct checked checked_report(uint32_t cause, size_t room);
+struct checked checked_report(uint32_t cause, uint32_t score, size_t room); /* the score by its bits */
 struct checked checked_held(size_t room); /* no more than KLARVESIMO_MOST */
 
 /* The numbers on 0: KLARVESIMO_FRAME_NUMBERS of them; or KLARVESIMO_HEAD, and KLARVESIMO_FIELD_NUMBERS a field. */

@@ -3,6 +3,8 @@
 #include <stdlib.h>
 #include <string.h>
 
+#include "channel.h"
+
 struct command command_make(void) {
   struct command c = {.bytes = malloc(MOST_BYTES)};
   if (!c.bytes) {
@@ -38,10 +40,11 @@ static void take_message(const struct script *s, struct command *c) {
   c->count = script_bytes(s, s->word[2], c->bytes);
 }
 
-/* report CAUSE ROOM */
+/* report CAUSE ROOM [SCORE] */
 static void take_report(const struct script *s, struct command *c) {
   c->cause = number32(s, s->word[1]);
   c->room = room_of(s, s->word[2]);
+  c->score = s->words == 4 ? script_bits(s, s->word[3]) : 0;
 }
 
 static uint32_t request_state(const struct script *s, const char *word) {
@@ -79,20 +82,37 @@ static uint64_t state_of(const struct script *s, const char *word) {
   if (strcmp(word, "idle") == 0) return KLARVESIMO_IDLE;
   if (strcmp(word, "speaking") == 0) return KLARVESIMO_SPEAKING;
   if (strcmp(word, "paused") == 0) return KLARVESIMO_PAUSED;
+  if (strcmp(word, "recognizing") == 0) return KLARVESIMO_RECOGNIZING;
+  if (strcmp(word, "recognized") == 0) return KLARVESIMO_RECOGNIZED;
   return script_number(s, word, UINT64_MAX);
 }
 
-/* `7+,8-` into the queue's numbers: how many */
-static uint64_t queue_of(const struct script *s, char *word, uint64_t *queue) {
-  uint64_t count = 0;
+/* `7+` or `7-`, as a number of the queue */
+static uint64_t prompt_of(const struct script *s, char *part) {
+  size_t end = strlen(part);
+  char sign = end > 0 ? part[end - 1] : 0;
+  if (sign != '+' && sign != '-') script_unreadable(s, "a queue entry without `+` or `-`");
+  part[end - 1] = 0;
+  return script_number(s, part, UINT64_MAX / 2) * 2 + (sign == '+');
+}
+
+/* `7:3f000000`, as a number of the queue and the bits of the threshold */
+static uint64_t recognition_of(const struct script *s, char *part, uint64_t *threshold) {
+  char *colon = strchr(part, ':');
+  if (!colon) script_unreadable(s, "a recognizer's queue entry without `:`");
+  *colon = 0;
+  *threshold = script_bits(s, colon + 1);
+  return script_number(s, part, UINT64_MAX / 2) * 2 + 1;
+}
+
+/* `7+,8-`, or on a recognizer `7:3f000000`, into the queue of a channel that has its name: how many */
+static uint64_t queue_of(const struct script *s, char *word, uint64_t *channel) {
+  uint64_t count = 0, *queue = channel + KLARVESIMO_CHANNEL_QUEUE;
+  uint64_t *thresholds = channel + KLARVESIMO_CHANNEL_THRESHOLDS;
   char *rest = parts_of(word);
-  for (char *part; (part = next_part(&rest));) {
-    size_t end = strlen(part);
-    char sign = end > 0 ? part[end - 1] : 0;
-    if (sign != '+' && sign != '-') script_unreadable(s, "a queue entry without `+` or `-`");
-    if (count == KLARVESIMO_MOST_HELD) script_unreadable(s, "more than 16 queue entries");
-    part[end - 1] = 0;
-    queue[count++] = script_number(s, part, UINT64_MAX / 2) * 2 + (sign == '+');
+  for (char *part; (part = next_part(&rest)); count++) {
+    if (count == channel_places(channel)) script_unreadable(s, "more queue entries than there are places");
+    queue[count] = channel_recognizes(channel) ? recognition_of(s, part, thresholds + count) : prompt_of(s, part);
   }
   return count;
 }
@@ -102,12 +122,12 @@ static void take_channel(const struct script *s, struct command *c) {
   uint64_t *to = c->channel;
   memset(to, 0, sizeof c->channel);
   size_t size = script_bytes(s, s->word[1], c->bytes);
-  to[KLARVESIMO_CHANNEL_STATE] = state_of(s, s->word[2]);
-  if (strcmp(s->word[3], "-") != 0) to[KLARVESIMO_CHANNEL_LAST] = script_number(s, s->word[3], UINT64_MAX - 1) + 1;
-  to[KLARVESIMO_CHANNEL_COUNT] = queue_of(s, s->word[4], to + KLARVESIMO_CHANNEL_QUEUE);
-  if (s->words == 6) to[KLARVESIMO_CHANNEL_COUNT] = script_number(s, s->word[5], UINT64_MAX);
   to[KLARVESIMO_CHANNEL_SIZE] = size;
   for (size_t i = 0; i < size && i < KLARVESIMO_LONGEST_NAME; i++) to[KLARVESIMO_CHANNEL_NAME + i] = c->bytes[i];
+  to[KLARVESIMO_CHANNEL_STATE] = state_of(s, s->word[2]);
+  if (strcmp(s->word[3], "-") != 0) to[KLARVESIMO_CHANNEL_LAST] = script_number(s, s->word[3], UINT64_MAX - 1) + 1;
+  to[KLARVESIMO_CHANNEL_COUNT] = queue_of(s, s->word[4], to);
+  if (s->words == 6) to[KLARVESIMO_CHANNEL_COUNT] = script_number(s, s->word[5], UINT64_MAX);
 }
 
 /* number PLACE VALUE */
@@ -126,7 +146,7 @@ static const struct {
 } commands[] = {
     {"frame", COMMAND_FRAME, 2, 2, take_bytes},         {"read", COMMAND_READ, 2, 2, take_bytes},
     {"open", COMMAND_OPEN, 2, 2, take_bytes},           {"message", COMMAND_MESSAGE, 3, 3, take_message},
-    {"report", COMMAND_REPORT, 3, 3, take_report},      {"respond", COMMAND_RESPOND, 7, 7, take_respond},
+    {"report", COMMAND_REPORT, 3, 4, take_report},      {"respond", COMMAND_RESPOND, 7, 7, take_respond},
     {"complete", COMMAND_COMPLETE, 5, 5, take_complete}, {"channel", COMMAND_CHANNEL, 5, 6, take_channel},
     {"number", COMMAND_NUMBER, 3, 3, take_number},      {"numbers", COMMAND_NUMBERS, 1, 1, take_nothing},
     {"show", COMMAND_SHOW, 1, 1, take_nothing},

@@ -30,6 +30,7 @@ struct command {
   size_t count;
   size_t room;
   uint32_t cause, id, status;
+  uint32_t score; /* of `report`: its bits */
   uint32_t state, ids[KLARVESIMO_MOST_HELD]; /* of `respond` */
   size_t listed;
   uint64_t channel[KLARVESIMO_CHANNEL]; /* of `channel` */

@@ -9,6 +9,7 @@
 #include <sys/socket.h>
 #include <unistd.h>
 
+#include "channel.h"
 #include "handled.h"
 #include "log.h"
 #include "now.h"
@@ -129,7 +130,8 @@ static uint32_t handle_one(struct connection *c, uint64_t *channel, const uint8_
   uint32_t number = klarvesimo_handle(channel, bytes, count, answer, sizeof c->out.bytes - c->out.queued, counts);
   c->out.queued += (size_t)counts[KLARVESIMO_WRITTEN];
   *consumed = (size_t)counts[KLARVESIMO_CONSUMED];
-  if (number == 0) say_handled(bytes, *consumed, answer, (size_t)counts[KLARVESIMO_WRITTEN]);
+  const char *held = channel_recognizes(channel) ? "recognitions" : "prompts";
+  if (number == 0) say_handled(bytes, *consumed, answer, (size_t)counts[KLARVESIMO_WRITTEN], held);
   if (number == KLARVESIMO_MALFORMED_LINE || number == KLARVESIMO_NO_REQUEST) say_refused(number, bytes, *consumed);
   return number;
 }
@@ -189,13 +191,13 @@ void connection_serve(struct connection *c, uint64_t *channel, int64_t now) {
   if (c->silence > 0 && now - c->heard >= c->silence) connection_close(c, SILENT, now);
 }
 
-uint32_t connection_report(struct connection *c, uint64_t *channel, uint32_t cause, int64_t now) {
+uint32_t connection_report(struct connection *c, uint64_t *channel, uint32_t cause, float score, int64_t now) {
   uint64_t written;
   uint32_t number;
   do {
     /* one that is about to be closed has no room for what is new */
     size_t room = c->socket < 0 || c->end || c->why ? 0 : sizeof c->out.bytes - c->out.queued;
-    number = klarvesimo_report(channel, cause, c->out.bytes + c->out.queued, room, &written);
+    number = klarvesimo_report(channel, cause, score, c->out.bytes + c->out.queued, room, &written);
   } while (number == KLARVESIMO_NO_ROOM && sends(c, now));
   c->out.queued += (size_t)written;
   if (number == KLARVESIMO_NO_ROOM) connection_close(c, c->end ? c->end : UNREAD, now);

@@ -49,9 +49,9 @@ void connection_receive(struct connection *c, int64_t now);
  * closes what has ended. */
 void connection_serve(struct connection *c, uint64_t *channel, int64_t now);
 
-/* The engine's report, its event sent to the client. 0, or the library's refusal: KLARVESIMO_NO_ROOM also where no
+/* The engine's report, its events sent to the client. 0, or the library's refusal: KLARVESIMO_NO_ROOM also where no
  * client is there. */
-uint32_t connection_report(struct connection *c, uint64_t *channel, uint32_t cause, int64_t now);
+uint32_t connection_report(struct connection *c, uint64_t *channel, uint32_t cause, float score, int64_t now);
 
 /* Begins to close it; connection_serve ends that, and says why, how many bytes came that were not handled, and what
  * became of the messages. */

@@ -10,54 +10,64 @@
 #include "log.h"
 #include "now.h"
 #include "number.h"
+#include "score.h"
 
-static void start(struct engine *e, uint64_t prompt) {
+enum { CERTAIN = 1 }; /* the score of a recognition that ends after its time */
+
+const char *engine_word(const struct engine *e) { return e->recognizes ? "recognition" : "prompt"; }
+
+static void start(struct engine *e, uint64_t request) {
   e->has = 1;
   e->runs = 0;
-  e->prompt = prompt;
+  e->request = request;
   e->left = e->takes;
 }
 
 static void stop(struct engine *e) {
-  log_line("prompt %" PRIu64 " stopped", e->prompt);
+  log_line("%s %" PRIu64 " stopped", engine_word(e), e->request);
   e->has = e->runs = 0;
 }
 
 static void run(struct engine *e, int runs) {
-  log_line("prompt %" PRIu64 " %s", e->prompt, runs ? "speaks" : "paused");
+  const char *begins = e->recognizes ? "begins" : "speaks";
+  log_line("%s %" PRIu64 " %s", engine_word(e), e->request, runs ? begins : "paused");
   e->runs = runs;
 }
 
-/* Ids rise, so a prompt with the same id is the same prompt, however many calls were made since. */
+/* Ids rise, so a request with the same id is the same one, however many calls were made since. */
 void engine_follow(struct engine *e, const uint64_t *channel, int64_t now) {
-  uint64_t held[KLARVESIMO_MOST_HELD], count;
-  int speaking = channel[KLARVESIMO_CHANNEL_STATE] == KLARVESIMO_SPEAKING;
+  uint64_t held[KLARVESIMO_MOST_HELD], count, state = channel[KLARVESIMO_CHANNEL_STATE];
+  int runs = state == KLARVESIMO_SPEAKING || state == KLARVESIMO_RECOGNIZING;
   klarvesimo_held(channel, held, KLARVESIMO_MOST_HELD, &count); /* refused: none */
   if (e->runs) e->left -= now - e->since;
   e->since = now;
-  if (e->has && (count == 0 || held[0] != e->prompt)) stop(e);
+  if (e->has && (count == 0 || held[0] != e->request)) stop(e);
   int starts = !e->has && count > 0;
   if (starts) start(e, held[0]);
-  if (e->has && (starts || e->runs != speaking)) run(e, speaking);
+  if (e->has && (starts || e->runs != runs)) run(e, runs);
 }
 
 static int timed(const struct engine *e) { return e->takes != BY_LINES_ALONE && e->has && e->runs && !e->due; }
 
-/* a report of the prompt in hand */
-static void due(struct engine *e, uint32_t cause) {
+/* a report of the request in hand */
+static void due(struct engine *e, uint32_t cause, float score) {
   e->due = 1;
   e->cause = cause;
+  e->score = score;
   e->about = e->has;
-  e->reported = e->prompt;
+  e->reported = e->request;
   e->said = 0;
 }
 
-int engine_late(const struct engine *e) { return e->about && !(e->has && e->prompt == e->reported); }
+int engine_late(const struct engine *e) { return e->about && !(e->has && e->request == e->reported); }
 
 void engine_forget(struct engine *e) { e->due = 0; }
 
 void engine_reported(struct engine *e) {
-  log_line("prompt %" PRIu64 " has ended, cause %" PRIu32, e->prompt, e->cause);
+  log_begin();
+  log_add("%s %" PRIu64 " has ended, cause %" PRIu32, engine_word(e), e->request, e->cause);
+  if (e->recognizes) log_add(", score %g", (double)e->score);
+  log_end();
   e->has = e->runs = 0;
   engine_forget(e);
 }
@@ -70,17 +80,26 @@ static void drop_line(struct engine *e, char *end) {
   memmove(e->text, end + 1, e->length);
 }
 
-/* The words behind `report `: the cause, which the library judges, and the prompt, if one is named. NULL, or what is
- * wrong. */
-static const char *take_report(struct engine *e, char *words) {
-  uint64_t cause = 0, prompt = 0;
-  char *space = strchr(words, ' ');
+/* the next word, NULL where there is none; what is behind it is left */
+static char *next_word(char **rest) {
+  char *word = *rest, *space = word ? strchr(word, ' ') : NULL;
   if (space) *space = 0;
-  const char *wrong = number_read(words, UINT32_MAX, &cause);
-  if (!wrong && space) wrong = number_read(space + 1, UINT32_MAX, &prompt);
+  *rest = space ? space + 1 : NULL;
+  return word;
+}
+
+/* The words behind `report `: the cause, which the library judges; a recognizer's score; and the request, if one is
+ * named. NULL, or what is wrong. */
+static const char *take_report(struct engine *e, char *words) {
+  uint64_t cause = 0, request = 0;
+  float score = 0;
+  const char *wrong = number_read(next_word(&words), UINT32_MAX, &cause);
+  if (!wrong && e->recognizes)
+    wrong = words ? score_read(next_word(&words), &score) : "a recognizer's report wants a score: report CAUSE SCORE";
+  if (!wrong && words) wrong = number_read(words, UINT32_MAX, &request);
   if (wrong) return wrong;
-  due(e, (uint32_t)cause);
-  if (space) e->about = 1, e->reported = prompt;
+  due(e, (uint32_t)cause, score);
+  if (words) e->about = 1, e->reported = request;
   return NULL;
 }
 
@@ -106,7 +125,8 @@ static void take_lines(struct engine *e) {
 
 int engine_due(struct engine *e, int64_t now) {
   take_lines(e);
-  if (timed(e) && now - e->since >= e->left) due(e, KLARVESIMO_CAUSE_NORMAL);
+  uint32_t cause = e->recognizes ? KLARVESIMO_RECOGNITION_SUCCESS : KLARVESIMO_CAUSE_NORMAL;
+  if (timed(e) && now - e->since >= e->left) due(e, cause, CERTAIN);
   return e->due;
 }
 

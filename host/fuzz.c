@@ -8,6 +8,7 @@
 #include <string.h>
 
 #include "blocks.h"
+#include "channel.h"
 #include "checked.h"
 #include "input.h"
 #include "lend.h"
@@ -39,7 +40,7 @@ static struct checked run(const struct command *c) {
   case COMMAND_MESSAGE:
     return checked_handle(c->bytes, c->count, c->room);
   case COMMAND_REPORT:
-    return checked_report(c->cause, c->room);
+    return checked_report(c->cause, c->score, c->room);
   case COMMAND_SHOW:
     return checked_held(c->room);
   case COMMAND_NUMBER:
@@ -63,7 +64,8 @@ static uint64_t cut(uint64_t number, uint64_t most) { return number < most ? num
 static void note(const struct command *c, const struct checked *call) {
   const uint64_t *channel = checked_channel();
   uint64_t sum = mixed(mixed(mixed(0, c->verb), call->number), status_of(call));
-  sum = mixed(sum, cut(channel[KLARVESIMO_CHANNEL_STATE], KLARVESIMO_PAUSED + 1));
+  sum = mixed(sum, (uint64_t)channel_recognizes(channel));
+  sum = mixed(sum, cut(channel[KLARVESIMO_CHANNEL_STATE], KLARVESIMO_RECOGNIZED + 1));
   sum = mixed(sum, cut(channel[KLARVESIMO_CHANNEL_COUNT], KLARVESIMO_MOST_HELD + 1));
   outcomes[(sum ^ sum >> 32) % OUTCOMES] = 1;
 }

@@ -15,19 +15,19 @@ static const char *state_word(uint64_t state) {
   return words[state <= KLARVESIMO_COMPLETE ? state : 0];
 }
 
-void say_handled(const uint8_t *request, size_t length, const uint8_t *answer, size_t written) {
+void say_handled(const uint8_t *request, size_t length, const uint8_t *answer, size_t written, const char *held) {
   uint64_t asked[KLARVESIMO_MOST], said[KLARVESIMO_MOST], consumed;
   if (klarvesimo_read(request, length, asked, KLARVESIMO_MOST, &consumed) != 0) return;
   if (klarvesimo_read(answer, written, said, KLARVESIMO_MOST, &consumed) != 0) return;
-  const uint64_t *prompts = message_field(answer, said, "Active-Request-Id-List");
-  if (said[KLARVESIMO_STATUS] < FAILED && said[KLARVESIMO_STATE] == KLARVESIMO_COMPLETE && !prompts) return;
+  const uint64_t *ids = message_field(answer, said, "Active-Request-Id-List");
+  if (said[KLARVESIMO_STATUS] < FAILED && said[KLARVESIMO_STATE] == KLARVESIMO_COMPLETE && !ids) return;
   log_begin();
   log_bytes(request + asked[KLARVESIMO_NAME], (size_t)asked[KLARVESIMO_NAME_LENGTH]);
   log_add(" %" PRIu64 " answered ", asked[KLARVESIMO_ID]);
   log_add("%03" PRIu64 " %s", said[KLARVESIMO_STATUS], state_word(said[KLARVESIMO_STATE]));
-  if (prompts) {
-    log_add(", prompts ");
-    log_bytes(answer + prompts[0], (size_t)prompts[1]);
+  if (ids) {
+    log_add(", %s ", held);
+    log_bytes(answer + ids[0], (size_t)ids[1]);
   }
   log_end();
 }

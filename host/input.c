@@ -53,7 +53,7 @@ int input_next(struct input *in, struct command *c) {
   if (in->left == 0) return 0;
   unsigned first = next_byte(in);
   c->verb = verbs[first % VERBS];
-  if (c->verb == COMMAND_REPORT) c->cause = (uint32_t)next_number(in);
+  if (c->verb == COMMAND_REPORT) c->cause = (uint32_t)next_number(in), c->score = (uint32_t)next_number(in);
   if (c->verb == COMMAND_NUMBER) c->place = (size_t)(next_number(in) % KLARVESIMO_CHANNEL), c->value = next_number(in);
   for (size_t i = 0; c->verb == COMMAND_CHANNEL && i < KLARVESIMO_CHANNEL; i++) c->channel[i] = next_number(in);
   if (has_room(c->verb)) {
@@ -82,7 +82,7 @@ void input_put(FILE *to, const struct command *c) {
   while (which < VERBS && verbs[which] != c->verb) which++;
   if (which == VERBS) return;
   fputc((int)which + (front > 0 ? FITTED : 0), to);
-  if (c->verb == COMMAND_REPORT) put_number(to, c->cause);
+  if (c->verb == COMMAND_REPORT) put_number(to, c->cause), put_number(to, c->score);
   if (c->verb == COMMAND_NUMBER) put_number(to, c->place), put_number(to, c->value);
   for (size_t i = 0; c->verb == COMMAND_CHANNEL && i < KLARVESIMO_CHANNEL; i++) put_number(to, c->channel[i]);
   if (has_room(c->verb)) put_number(to, c->verb == COMMAND_SHOW ? KLARVESIMO_MOST_HELD : c->room);

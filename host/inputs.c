@@ -59,7 +59,7 @@ static void write_line(const struct command *c) {
   if (c->verb == COMMAND_NUMBER) printf("number %zu %" PRIu64 "\n", c->place, c->value);
   if (c->verb == COMMAND_CHANNEL) write_numbers(c);
   if (c->verb == COMMAND_SHOW) puts("show");
-  if (c->verb == COMMAND_REPORT) printf("report %" PRIu32 " %zu\n", c->cause, c->room);
+  if (c->verb == COMMAND_REPORT) printf("report %" PRIu32 " %zu %08" PRIx32 "\n", c->cause, c->room, c->score);
   if (c->verb == COMMAND_MESSAGE) printf("message %zu ", c->room);
   if (c->verb < sizeof words / sizeof *words) printf("%s ", words[c->verb]);
   if (c->verb != COMMAND_MESSAGE && c->verb >= sizeof words / sizeof *words) return;

@@ -32,12 +32,12 @@ struct entry entry_of_message(const uint8_t *bytes, size_t count, uint32_t numbe
   if (number != 0) return NOTHING;
   if (klarvesimo_read(bytes, count, in, KLARVESIMO_MOST, &consumed) != 0) return UNREADABLE;
   if (in[KLARVESIMO_KIND] != KLARVESIMO_REQUEST) return UNREADABLE;
-  int speaks = message_is(bytes, in, "SPEAK");
-  if (!speaks && !message_is(bytes, in, "STOP") && !message_is(bytes, in, "BARGE-IN-OCCURRED")) return NOTHING;
+  int asks = message_is(bytes, in, "SPEAK") || message_is(bytes, in, "RECOGNIZE");
+  if (!asks && !message_is(bytes, in, "STOP") && !message_is(bytes, in, "BARGE-IN-OCCURRED")) return NOTHING;
   if (klarvesimo_read(written, size, out, KLARVESIMO_MOST, &consumed) != 0 || consumed != size) return UNREADABLE;
   if (out[KLARVESIMO_KIND] != KLARVESIMO_RESPONSE || !out[KLARVESIMO_GOOD]) return UNREADABLE;
   if (out[KLARVESIMO_STATUS] != 200 && out[KLARVESIMO_STATUS] != 201) return NOTHING;
-  if (speaks) return (struct entry){.kind = ENTRY_ACCEPTED, .ids = {(uint32_t)in[KLARVESIMO_ID]}, .count = 1};
+  if (asks) return (struct entry){.kind = ENTRY_ACCEPTED, .ids = {(uint32_t)in[KLARVESIMO_ID]}, .count = 1};
   const uint64_t *list = message_field(written, out, "Active-Request-Id-List");
   return list ? closed(written, list) : NOTHING;
 }

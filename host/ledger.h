@@ -1,5 +1,6 @@
-/* The ledger of document 01 ("How tight the promises are"): fed, for each call in turn, the lent input or the report, the number returned and the
- * bytes written; nothing comes from the channel's numbers. */
+/* The ledger of document 01 ("How tight the promises are"), on a recognizer with RECOGNIZE for SPEAK: fed, for each
+ * call in turn, the lent input or the report, the number returned and the bytes written; nothing comes from the
+ * channel's numbers. */
 #ifndef LEDGER_H
 #define LEDGER_H
 

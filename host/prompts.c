@@ -71,7 +71,7 @@ void prompts_close(const uint32_t *ids, size_t count, const char *became) {
 }
 
 void prompts_write(void) {
-  puts("What became of each prompt");
+  puts("What became of each prompt and recognition");
   for (size_t c = 0; c < chapter_count; c++) {
     size_t end = c + 1 < chapter_count ? chapters[c + 1].first : prompt_count;
     /* the time before any opening is worth a word only if something came then */

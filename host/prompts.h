@@ -1,4 +1,5 @@
-/* What became of each SPEAK, in chapters: one for each opening, and for each channel that the script has set. */
+/* What became of each SPEAK and RECOGNIZE, in chapters: one for each opening, and for each channel that the script has
+ * set. */
 #ifndef PROMPTS_H
 #define PROMPTS_H
 
@@ -8,10 +9,10 @@
 /* Begins a chapter; the title is kept. */
 void prompts_chapter(char *title);
 
-/* A SPEAK that was accepted, and is held until it is closed. */
+/* One that was accepted, and is held until it is closed. */
 void prompts_accepted(uint32_t id);
 
-/* A SPEAK that was not accepted; or, on a channel that the script has set, one that was closed. */
+/* One that was not accepted; or, on a channel that the script has set, one that was closed. */
 void prompts_add(uint32_t id, const char *became);
 
 /* The ones held become what `became` says. */

@@ -39,6 +39,42 @@ void write_arrow(const char *arrow, const uint8_t *bytes, size_t count) {
   }
 }
 
+static const char *const prompt_causes[KLARVESIMO_CAUSES] = {
+    [KLARVESIMO_CAUSE_NORMAL] = "normal",
+    [KLARVESIMO_CAUSE_BARGE_IN] = "barge-in",
+    [KLARVESIMO_CAUSE_PARSE_FAILURE] = "parse-failure",
+    [KLARVESIMO_CAUSE_URI_FAILURE] = "uri-failure",
+    [KLARVESIMO_CAUSE_ERROR] = "error",
+    [KLARVESIMO_CAUSE_LANGUAGE_UNSUPPORTED] = "language-unsupported",
+    [KLARVESIMO_CAUSE_LEXICON_LOAD_FAILURE] = "lexicon-load-failure",
+    [KLARVESIMO_CAUSE_CANCELLED] = "cancelled",
+};
+
+static const char *const recognition_causes[KLARVESIMO_RECOGNITION_CAUSES] = {
+    [KLARVESIMO_RECOGNITION_SUCCESS] = "success",
+    [KLARVESIMO_RECOGNITION_NO_MATCH] = "no-match",
+    [KLARVESIMO_RECOGNITION_NO_INPUT_TIMEOUT] = "no-input-timeout",
+    [KLARVESIMO_RECOGNITION_HOTWORD_MAXTIME] = "hotword-maxtime",
+    [KLARVESIMO_RECOGNITION_GRAMMAR_LOAD_FAILURE] = "grammar-load-failure",
+    [KLARVESIMO_RECOGNITION_GRAMMAR_COMPILATION_FAILURE] = "grammar-compilation-failure",
+    [KLARVESIMO_RECOGNITION_RECOGNIZER_ERROR] = "recognizer-error",
+    [KLARVESIMO_RECOGNITION_SPEECH_TOO_EARLY] = "speech-too-early",
+    [KLARVESIMO_RECOGNITION_SUCCESS_MAXTIME] = "success-maxtime",
+    [KLARVESIMO_RECOGNITION_URI_FAILURE] = "uri-failure",
+    [KLARVESIMO_RECOGNITION_LANGUAGE_UNSUPPORTED] = "language-unsupported",
+    [KLARVESIMO_RECOGNITION_CANCELLED] = "cancelled",
+    [KLARVESIMO_RECOGNITION_SEMANTICS_FAILURE] = "semantics-failure",
+    [KLARVESIMO_RECOGNITION_PARTIAL_MATCH] = "partial-match",
+    [KLARVESIMO_RECOGNITION_PARTIAL_MATCH_MAXTIME] = "partial-match-maxtime",
+    [KLARVESIMO_RECOGNITION_NO_MATCH_MAXTIME] = "no-match-maxtime",
+};
+
+const char *cause_word(int recognizes, uint32_t cause) {
+  if (recognizes && cause < KLARVESIMO_RECOGNITION_CAUSES) return recognition_causes[cause];
+  if (!recognizes && cause < KLARVESIMO_CAUSES) return prompt_causes[cause];
+  return "no such cause";
+}
+
 const char *refusal_meaning(uint32_t number) {
   static const char *const meanings[] = {
       [KLARVESIMO_MORE_BYTES] = "more bytes needed",
@@ -48,9 +84,10 @@ const char *refusal_meaning(uint32_t number) {
       [KLARVESIMO_MALFORMED_LINE] = "framed, start line malformed",
       [KLARVESIMO_NO_REQUEST] = "framed, a response or event, no request",
       [KLARVESIMO_NO_ROOM] = "the exact answer is longer than the lent output",
-      [KLARVESIMO_NOT_SPEAKING] = "engine report while nothing is speaking (idle or paused)",
-      [KLARVESIMO_NO_CAUSE] = "engine cause above 7",
+      [KLARVESIMO_NOT_SPEAKING] = "engine report while neither speaking nor recognizing",
+      [KLARVESIMO_NO_CAUSE] = "engine cause above 7, on a recognizer above 15",
       [KLARVESIMO_MALFORMED_NAME] = "channel name malformed at opening",
+      [KLARVESIMO_NO_SCORE] = "engine score that is no number",
       [KLARVESIMO_NOT_SOUND] = "the channel handed in is not sound",
   };
   return number < sizeof meanings / sizeof *meanings && meanings[number] ? meanings[number] : "no such number";

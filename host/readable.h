@@ -1,4 +1,4 @@
-/* Bytes and refusals for people. */
+/* Bytes, causes and refusals for people. */
 #ifndef READABLE_H
 #define READABLE_H
 
@@ -15,7 +15,10 @@ void write_readable(FILE *to, const uint8_t *bytes, size_t count);
 /* The bytes after an arrow, on standard output, CRLF as line ends, each line indented. */
 void write_arrow(const char *arrow, const uint8_t *bytes, size_t count);
 
-/* In the words of document 01. */
+/* The word of a cause of a synthesizer, or a recognizer. */
+const char *cause_word(int recognizes, uint32_t cause);
+
+/* In the words of documents 01 and 02. */
 const char *refusal_meaning(uint32_t number);
 
 #endif

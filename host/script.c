@@ -88,6 +88,16 @@ uint64_t script_number(const struct script *s, const char *word, uint64_t most) 
   return value;
 }
 
+uint32_t script_bits(const struct script *s, const char *word) {
+  uint32_t bits = 0;
+  if (strlen(word) != 8) script_unreadable(s, "bits are eight hexadecimal digits");
+  for (; *word; word++) {
+    if (digit(*word) < 0) script_unreadable(s, "bits are eight lower-case hexadecimal digits");
+    bits = bits << 4 | (uint32_t)digit(*word);
+  }
+  return bits;
+}
+
 size_t script_bytes(const struct script *s, const char *word, uint8_t *bytes) {
   if (strcmp(word, "-") == 0) return 0;
   size_t length = strlen(word);

@@ -36,6 +36,9 @@ void script_unreadable(const struct script *s, const char *why);
 /* A number, at most `most`. */
 uint64_t script_number(const struct script *s, const char *word, uint64_t most);
 
+/* The 32 bits that exactly eight lower-case hexadecimal digits are. */
+uint32_t script_bits(const struct script *s, const char *word);
+
 /* Lower-case hexadecimal pairs, or `-` for none, into bytes: their count. */
 size_t script_bytes(const struct script *s, const char *word, uint8_t *bytes);
 

@@ -1,6 +1,7 @@
-/* tell [FILE]: plays a script on the proved library and writes it for people: what comes in after `->`, what is written after `<-`, refusals with their
- * meaning, and at the end what became of each prompt. That, and after every call the balance of the ledger, is taken from inputs, numbers returned
- * and bytes written alone. Status 2 with the line's number where a line cannot be read, 3 where the ledger is out of balance. */
+/* tell [FILE]: plays a script on the proved library and writes it for people: what comes in after `->`, each message
+ * that is written after `<-`, refusals with their meaning, and at the end what became of each prompt and recognition.
+ * That, and after every call the balance of the ledger, is taken from inputs, numbers returned and bytes written alone.
+ * Status 2 with the line's number where a line cannot be read, 3 where the ledger is out of balance. */
 #define _POSIX_C_SOURCE 200809L
 #include <inttypes.h>
 #include <stdlib.h>
@@ -12,6 +13,7 @@
 #include "message.h"
 #include "prompts.h"
 #include "readable.h"
+#include "score.h"
 #include "usage.h"
 #include "writing.h"
 
@@ -103,17 +105,28 @@ static void enter(const struct entry *e) {
   if (!ledger_enter(&ledger, e) || !ledger_balances(&ledger, held, count)) script_fail(&script, OUT_OF_BALANCE, ledger.wrong);
 }
 
+/* each message that was written; it ends with its own empty line */
+static void write_messages(size_t written) {
+  uint64_t frame[KLARVESIMO_FRAME_NUMBERS];
+  for (size_t at = 0, length; at < written; at += length) {
+    length = written - at;
+    if (klarvesimo_frame(out + at, length, frame, KLARVESIMO_FRAME_NUMBERS) == 0)
+      length = (size_t)frame[KLARVESIMO_FRAME_LENGTH];
+    write_arrow("<-", out + at, length);
+  }
+}
+
 static void write_answer(uint32_t number, uint64_t written, size_t room) {
   if (written > room) script_fail(&script, OUT_OF_BALANCE, "more bytes are said to be written than were lent");
-  if (number == 0) /* it ends with its own empty line */
-    write_arrow("<-", out, (size_t)written);
+  if (number == 0)
+    write_messages((size_t)written);
   else if (number == KLARVESIMO_NO_ROOM)
     printf("   refused %" PRIu32 ": %s of %zu\n\n", number, refusal_meaning(number), room);
   else
     write_refused(number);
 }
 
-/* why a SPEAK was not accepted: the status written, or the refusal */
+/* why a SPEAK or a RECOGNIZE was not accepted: the status written, or the refusal */
 static void note_not_accepted(uint32_t id, uint32_t number, size_t written) {
   uint64_t answer[KLARVESIMO_MOST], consumed;
   char became[LONGEST] = "not accepted, answered with something else";
@@ -125,7 +138,7 @@ static void note_not_accepted(uint32_t id, uint32_t number, size_t written) {
   prompts_add(id, became);
 }
 
-/* what a message from the client tells of prompts */
+/* what a message from the client tells of prompts and recognitions */
 static void note_message(const struct command *c, uint32_t number, size_t written, const struct entry *e) {
   uint64_t in[KLARVESIMO_MOST], consumed;
   char became[LONGEST];
@@ -137,7 +150,7 @@ static void note_message(const struct command *c, uint32_t number, size_t writte
     prompts_accepted(e->ids[0]);
   else if (e->kind == ENTRY_CLOSED)
     prompts_close(e->ids, e->count, became);
-  else if (message_is(c->bytes, in, "SPEAK"))
+  else if (message_is(c->bytes, in, "SPEAK") || message_is(c->bytes, in, "RECOGNIZE"))
     note_not_accepted((uint32_t)in[KLARVESIMO_ID], number, written);
 }
 
@@ -155,32 +168,40 @@ static void tell_message(const struct command *c) {
   enter(&e);
 }
 
-/* the cause that the event names */
+/* what the event at `at` says of its request, and the cause that it names: the event's length, 0 where it is none */
+static size_t note_event(const uint8_t *at, size_t count, uint32_t id) {
+  uint64_t event[KLARVESIMO_MOST], length;
+  char became[LONGEST];
+  if (klarvesimo_read(at, count, event, KLARVESIMO_MOST, &length) != 0) return 0;
+  const char *how = message_is(at, event, "SPEAK-COMPLETE") ? "spoken" : "completed";
+  const uint64_t *cause = message_field(at, event, "Completion-Cause");
+  if (cause)
+    snprintf(became, sizeof became, "%s, %.*s", how, (int)cause[1], (const char *)at + cause[0]);
+  else
+    snprintf(became, sizeof became, "%s, no cause", how);
+  prompts_close(&id, 1, became);
+  return (size_t)length;
+}
+
 static void note_report(size_t written, const struct entry *e) {
-  uint64_t event[KLARVESIMO_MOST], consumed;
-  char became[LONGEST] = "spoken, no cause";
   if (e->kind != ENTRY_CLOSED) return;
-  int read = klarvesimo_read(out, written, event, KLARVESIMO_MOST, &consumed) == 0;
-  const uint64_t *cause = read ? message_field(out, event, "Completion-Cause") : NULL;
-  if (cause) snprintf(became, sizeof became, "spoken, %.*s", (int)cause[1], (const char *)out + cause[0]);
-  prompts_close(e->ids, e->count, became);
+  for (size_t i = 0, at = 0; i < e->count; i++) at += note_event(out + at, written - at, e->ids[i]);
+}
+
+/* a synthesizer's score is not looked at */
+static void write_report(const struct command *c) {
+  float score = score_of_bits(c->score);
+  int recognizes = channel_recognizes(channel);
+  printf("** the engine reports %03" PRIu32 " %s", c->cause, cause_word(recognizes, c->cause));
+  if (recognizes && score != score) fputs(", score no number", stdout);
+  if (recognizes && score == score) printf(", score %.9f", (double)score);
+  putchar('\n');
 }
 
 static void tell_report(const struct command *c) {
-  static const char *const causes[KLARVESIMO_CAUSES] = {
-      [KLARVESIMO_CAUSE_NORMAL] = "normal",
-      [KLARVESIMO_CAUSE_BARGE_IN] = "barge-in",
-      [KLARVESIMO_CAUSE_PARSE_FAILURE] = "parse-failure",
-      [KLARVESIMO_CAUSE_URI_FAILURE] = "uri-failure",
-      [KLARVESIMO_CAUSE_ERROR] = "error",
-      [KLARVESIMO_CAUSE_LANGUAGE_UNSUPPORTED] = "language-unsupported",
-      [KLARVESIMO_CAUSE_LEXICON_LOAD_FAILURE] = "lexicon-load-failure",
-      [KLARVESIMO_CAUSE_CANCELLED] = "cancelled",
-  };
   uint64_t written;
-  const char *word = c->cause < KLARVESIMO_CAUSES ? causes[c->cause] : "no such cause";
-  printf("** the engine reports %03" PRIu32 " %s\n", c->cause, word);
-  uint32_t number = klarvesimo_report(channel, c->cause, out, c->room, &written);
+  write_report(c);
+  uint32_t number = klarvesimo_report(channel, c->cause, score_of_bits(c->score), out, c->room, &written);
   write_answer(number, written, c->room);
   struct entry e = entry_of_report(number, out, (size_t)written);
   note_report((size_t)written, &e);

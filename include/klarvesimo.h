@@ -1,4 +1,5 @@
-/* Klarvesimo: the server end of one MRCPv2 channel for a speech synthesizer (RFC 6787), proved for all inputs.
+/* Klarvesimo: the server end of one MRCPv2 channel for a speech synthesizer or a speech recognizer (RFC 6787), proved
+ * for all inputs. The channel's name says which of the two it is.
  *
  * Each call hands over numbers and buffers and gets numbers back. The channel is an array that the caller keeps; else
  * nothing is kept between calls, nothing is allocated, and no byte outside what is lent is read or written. Every call
@@ -10,7 +11,7 @@
  * A conversation, with `lent` bytes of the client's at `bytes`:
  *
  *    uint64_t channel[KLARVESIMO_CHANNEL], counts[KLARVESIMO_COUNTS], written, ids[KLARVESIMO_MOST_HELD], held;
- *    uint8_t out[KLARVESIMO_LONGEST_ANSWER];
+ *    uint8_t out[KLARVESIMO_LONGEST_REPORT];
  *    if (klarvesimo_open(channel, name, length) != 0) return;            // KLARVESIMO_MALFORMED_NAME
  *    do {                                                                // each message that has come whole
  *      number = klarvesimo_handle(channel, bytes, lent, out, sizeof out, counts);
@@ -18,11 +19,11 @@
  *      bytes += counts[KLARVESIMO_CONSUMED], lent -= counts[KLARVESIMO_CONSUMED];
  *    } while (counts[KLARVESIMO_CONSUMED] > 0);
  *    if (number != KLARVESIMO_MORE_BYTES) close_connection();            // else wait for them
- *    if (engine_has_ended &&
- *        klarvesimo_report(channel, KLARVESIMO_CAUSE_NORMAL, out, sizeof out, &written) == 0)
+ *    if (engine_has_ended &&                                             // its cause; and a recognizer's score
+ *        klarvesimo_report(channel, cause, score, out, sizeof out, &written) == 0)
  *      send_to_client(out, written);
- *    if (klarvesimo_held(channel, ids, KLARVESIMO_MOST_HELD, &held) == 0)  // the prompts that are speaking or waiting
- *      for (uint64_t i = 0; i < held; i++) show_prompt(ids[i]);
+ *    if (klarvesimo_held(channel, ids, KLARVESIMO_MOST_HELD, &held) == 0)  // the requests that are active or waiting
+ *      for (uint64_t i = 0; i < held; i++) show_request(ids[i]);
  *
  * What the library needs, on each of the four targets that it is built for:
  *
@@ -31,22 +32,24 @@
  *
  *      x86-64 Linux             called as the System V ABI says; uses the SSE2 registers, which every x86-64 has
  *      aarch64-linux-gnu        ARMv8-A, called as AAPCS64 says; uses the SIMD registers, which every ARMv8-A has
- *      arm-linux-gnueabihf      ARMv7-A, called as AAPCS with VFP registers says; uses none of these
- *      thumbv7em-none-eabihf    Cortex-M4F and later, no operating system; likewise
+ *      arm-linux-gnueabihf      ARMv7-A with VFPv3-D16, called as AAPCS with VFP registers says; uses these too
+ *      thumbv7em-none-eabihf    Cortex-M4F and later, no operating system; likewise, and the floating-point unit is
+ *                               switched on before the first call
  *
  *  - memcpy and memset. The archive leaves no other name undefined on 64 bits. On 32 bits also __aeabi_uldivmod, which
  *    libgcc has; on thumbv7em-none-eabihf, for memcpy and memset, their AEABI forms, which newlib has: __aeabi_memcpy,
- *    __aeabi_memclr, each also with 4 and with 8 at its end, and __aeabi_memset4;
+ *    also with 4 and with 8 at its end, __aeabi_memclr4, __aeabi_memclr8 and __aeabi_memset4;
  *  - a stack that is aligned at each call as the ABI says: to 16 bytes, on 32 bits to 8. C compilers see to it;
  *    assembly, and whoever sets up a thread's stack, must;
  *  - arrays of uint64_t aligned to 8 bytes, as C compilers do. Bytes may begin anywhere: on ARM they are also loaded by
  *    words that are not aligned, so the processor must take that: as a Cortex-M4 does unless CCR.UNALIGN_TRP is set,
  *    and a Cortex-A in normal memory unless SCTLR.A is set;
- *  - at most 4 KB of stack. klarvesimo_handle takes the most, whatever is lent: 2,712 bytes on x86-64, 2,576 on
- *    aarch64, 2,792 on arm, 2,576 on thumbv7em; what the functions named above take for themselves comes on top of
- *    that;
+ *  - at most 4 KB of stack. No call takes more of it, whatever is lent, than 3,472 bytes on x86-64, 3,408 on aarch64,
+ *    2,944 on arm, 2,928 on thumbv7em; what the functions named above take for themselves comes on top of that;
  *  - on x86-64 the red zone of that ABI: up to 128 bytes below the stack pointer are in use, so what interrupts a call
  *    and runs on its stack must leave them as they are. There is none on ARM;
+ *  - floating-point numbers as C begins with them: rounded to nearest, and subnormal ones taken as they are. So it is
+ *    after reset; what changes MXCSR, FPCR or FPSCR, as a program linked with -ffast-math may, must put it back;
  *  - no heap, and no memory of its own: nothing in the archive can be written. */
 #ifndef KLARVESIMO_H
 #define KLARVESIMO_H
@@ -65,10 +68,10 @@ extern "C" {
 
 /* What a call returns.
  *
- * Where two hold at once, 21 comes before all others, 1 to 6 before 7, 9 before 8, and 8 before 7. A refused call
- * leaves the lent output and, but for klarvesimo_open, the channel as they were; the counts that it sets say what was
- * consumed, which is the stated length after 5 and 6 and else 0, and that nothing was written. After 2, 3 or 4 the same
- * bytes give the same number again, whatever follows them: close the connection. */
+ * Where two hold at once, 21 comes before all others, 1 to 6 before 7, 9 before 11, 11 before 8, and 8 before 7. A
+ * refused call leaves the lent output and, but for klarvesimo_open, the channel as they were; the counts that it sets
+ * say what was consumed, which is the stated length after 5 and 6 and else 0, and that nothing was written. After 2, 3
+ * or 4 the same bytes give the same number again, whatever follows them: close the connection. */
 enum {
   KLARVESIMO_HANDLED = 0,         /* no refusal */
   KLARVESIMO_MORE_BYTES = 1,      /* more bytes are needed */
@@ -77,10 +80,12 @@ enum {
   KLARVESIMO_TOO_SHORT = 4,       /* the stated length is below the opening's own length */
   KLARVESIMO_MALFORMED_LINE = 5,  /* framed, but the start line is malformed */
   KLARVESIMO_NO_REQUEST = 6,      /* framed, but a response or an event, no request */
-  KLARVESIMO_NO_ROOM = 7,         /* the exact answer is longer than the lent output */
-  KLARVESIMO_NOT_SPEAKING = 8,    /* an engine report while nothing is speaking (idle or paused) */
-  KLARVESIMO_NO_CAUSE = 9,        /* an engine cause above 7 */
+  KLARVESIMO_NO_ROOM = 7,         /* the exact answer, or all events of a report together, are longer than the lent
+                                   * output */
+  KLARVESIMO_NOT_SPEAKING = 8,    /* an engine report while nothing is speaking, or being recognized */
+  KLARVESIMO_NO_CAUSE = 9,        /* an engine cause above 7, on a recognizer above 15 */
   KLARVESIMO_MALFORMED_NAME = 10, /* the channel name is malformed */
+  KLARVESIMO_NO_SCORE = 11,       /* on a recognizer, an engine score that is no number */
   KLARVESIMO_NOT_SOUND = 21       /* the channel handed in is not sound */
 };
 
@@ -88,9 +93,11 @@ enum {
 enum {
   KLARVESIMO_LONGEST_OPENING = 31,
   KLARVESIMO_LONGEST_MESSAGE = 16384,
-  KLARVESIMO_LONGEST_ANSWER = 305, /* a response or an event of the library's own */
-  KLARVESIMO_LONGEST_NAME = 44,    /* a channel's */
-  KLARVESIMO_MOST_HELD = 16        /* SPEAKs outstanding */
+  KLARVESIMO_LONGEST_ANSWER = 305,  /* a response, and what a report writes on a synthesizer */
+  KLARVESIMO_LONGEST_REPORT = 1250, /* what a report writes on either kind: on a recognizer up to eight events */
+  KLARVESIMO_LONGEST_NAME = 44,     /* a channel's */
+  KLARVESIMO_MOST_HELD = 16,        /* requests outstanding: SPEAKs on a synthesizer */
+  KLARVESIMO_MOST_RECOGNITIONS = 8  /* RECOGNIZEs, on a recognizer */
 };
 
 /* Where does the message at the front of `bytes` end? It looks at 31 bytes at most. On 0 these numbers are in out: */
@@ -135,7 +142,8 @@ enum {
   KLARVESIMO_KILL_ON_BARGE_IN,
   KLARVESIMO_PROXY_SYNC_ID,
   KLARVESIMO_LOGGING_TAG,
-  KLARVESIMO_OTHER_NAME /* any that is not known */
+  KLARVESIMO_OTHER_NAME, /* any that is not known */
+  KLARVESIMO_CONFIDENCE_THRESHOLD
 };
 enum {
   KLARVESIMO_HAS_CHANNEL_IDENTIFIER = 1 << KLARVESIMO_CHANNEL_IDENTIFIER,
@@ -145,7 +153,8 @@ enum {
   KLARVESIMO_HAS_KILL_ON_BARGE_IN = 1 << KLARVESIMO_KILL_ON_BARGE_IN,
   KLARVESIMO_HAS_PROXY_SYNC_ID = 1 << KLARVESIMO_PROXY_SYNC_ID,
   KLARVESIMO_HAS_LOGGING_TAG = 1 << KLARVESIMO_LOGGING_TAG,
-  KLARVESIMO_HAS_OTHER_NAME = 1 << KLARVESIMO_OTHER_NAME
+  KLARVESIMO_HAS_OTHER_NAME = 1 << KLARVESIMO_OTHER_NAME,
+  KLARVESIMO_HAS_CONFIDENCE_THRESHOLD = 1 << KLARVESIMO_CONFIDENCE_THRESHOLD
 };
 
 /* Field f, from 0, has four numbers, at out[KLARVESIMO_HEAD + KLARVESIMO_FIELD_NUMBERS * f] and after. An out shorter
@@ -163,27 +172,40 @@ enum {
 /* 0, 1 to 5, or 7. */
 uint32_t klarvesimo_read(const uint8_t *bytes, uint64_t count, uint64_t *out, uint64_t room, uint64_t *consumed);
 
-/* A channel is these 64 numbers, which the caller keeps and hands in again. Any numbers at all may come in: a channel
- * is sound if its name is well formed (1 to 32 ASCII letters or digits, then `@speechsynth`), it is idle exactly when
- * nothing is outstanding, at most 16 are, and their ids rise in queue order with none above the last seen (none seen:
- * idle). One that is not, or in which a number is outside the range given here, gets 21 from every call. Numbers of the
- * queue past the count, and of the name past its size, are not looked at; a call that returns 0 writes all 64 anew, and
- * those as 0. */
+/* A channel is these 64 numbers, which the caller keeps and hands in again. Its name says of which kind it is: 1 to 32
+ * ASCII letters or digits, then `@speechsynth` for a synthesizer or `@speechrecog` for a recognizer.
+ *
+ * Any numbers at all may come in. A channel is sound if its name is well formed and its state one of its kind; it is
+ * speaking or paused, or recognizing, exactly while anything is outstanding; at most 16 are, on a recognizer at most 8;
+ * and their ids rise in queue order with none above the last seen (none seen: idle). One that is not, or in which a
+ * number is outside the range given here, gets 21 from every call. Numbers of the queue and of the thresholds past the
+ * count, and of the name past its size, are not looked at; a call that returns 0 writes all 64 anew, and those as 0. */
 enum {
-  KLARVESIMO_CHANNEL_STATE,     /* KLARVESIMO_IDLE, KLARVESIMO_SPEAKING or KLARVESIMO_PAUSED */
-  KLARVESIMO_CHANNEL_LAST,      /* 0 where no request was seen; else the last id seen, and 1 more: at most
-                                 * 4,294,967,296 */
-  KLARVESIMO_CHANNEL_COUNT,     /* how many SPEAKs are outstanding, 0 to 16 */
-  KLARVESIMO_CHANNEL_SIZE,      /* the length of the name, at most 44 */
-  KLARVESIMO_CHANNEL_QUEUE,     /* 16 numbers: each outstanding SPEAK, the active one first, as its id times 2, and 1
-                                 * more where barge-in kills it */
-  KLARVESIMO_CHANNEL_NAME = 20, /* 44 numbers: the name, a byte in each */
-  KLARVESIMO_CHANNEL = 64       /* how many numbers there are */
+  KLARVESIMO_CHANNEL_STATE,           /* one of the five below */
+  KLARVESIMO_CHANNEL_LAST,            /* 0 where no request was seen; else the last id seen, and 1 more: at most
+                                       * 4,294,967,296 */
+  KLARVESIMO_CHANNEL_COUNT,           /* how many requests are outstanding: 0 to 16, on a recognizer 0 to 8 */
+  KLARVESIMO_CHANNEL_SIZE,            /* the length of the name, at most 44 */
+  KLARVESIMO_CHANNEL_QUEUE,           /* 16 numbers, on a recognizer 8: each outstanding request, the active one first,
+                                       * as its id times 2, and 1 more where barge-in kills it; a recognizer's has the
+                                       * 1 always, and no call goes by it there */
+  KLARVESIMO_CHANNEL_THRESHOLDS = 12, /* on a recognizer 8 numbers: the Confidence-Threshold of each, in the same order,
+                                       * as the 32 bits of a single-precision number. Any 32 bits are in range: what
+                                       * the caller hands in comes back as it was. On a synthesizer these are the
+                                       * queue's */
+  KLARVESIMO_CHANNEL_NAME = 20,       /* 44 numbers: the name, a byte in each */
+  KLARVESIMO_CHANNEL = 64             /* how many numbers there are */
 };
-enum { KLARVESIMO_IDLE = 0, KLARVESIMO_SPEAKING = 1, KLARVESIMO_PAUSED = 2 };
+enum {
+  KLARVESIMO_IDLE = 0,        /* of either kind */
+  KLARVESIMO_SPEAKING = 1,    /* a synthesizer's */
+  KLARVESIMO_PAUSED = 2,
+  KLARVESIMO_RECOGNIZING = 3, /* a recognizer's */
+  KLARVESIMO_RECOGNIZED = 4   /* nothing is outstanding, and a report has ended the last one */
+};
 
-/* Opens a channel: idle, with nothing outstanding and no request seen. 0; or 10, and then the name in the channel is
- * empty, so it is not sound. All 64 numbers are written in either case. */
+/* Opens a channel of either kind: idle, with nothing outstanding and no request seen. 0; or 10, and then the name in
+ * the channel is empty, so it is not sound. All 64 numbers are written in either case. */
 uint32_t klarvesimo_open(uint64_t *channel, const uint8_t *name, uint64_t length);
 
 /* Handles the client's message at the front of `bytes`, and nothing past it: judges the request, does what it asks, and
@@ -199,7 +221,7 @@ enum {
 uint32_t klarvesimo_handle(uint64_t *channel, const uint8_t *bytes, uint64_t count, uint8_t *out, uint64_t room,
                            uint64_t *counts);
 
-/* Why a prompt has ended, as the engine reports it. */
+/* Why a prompt has ended, as the engine of a synthesizer reports it. */
 enum {
   KLARVESIMO_CAUSE_NORMAL,
   KLARVESIMO_CAUSE_BARGE_IN,
@@ -212,23 +234,57 @@ enum {
   KLARVESIMO_CAUSES /* how many there are */
 };
 
-/* The engine's report that the active prompt has ended: writes the SPEAK-COMPLETE event for it to the front of out, and
- * the next prompt, if there is one, is speaking. 0, 7, 8, 9 or 21; KLARVESIMO_LONGEST_ANSWER bytes of room never meet
- * 7. `written` is set always, to 0 where the call is refused; bytes of out past it stay as they were.
+/* Why a recognition has ended, as the engine of a recognizer reports it. */
+enum {
+  KLARVESIMO_RECOGNITION_SUCCESS,
+  KLARVESIMO_RECOGNITION_NO_MATCH,
+  KLARVESIMO_RECOGNITION_NO_INPUT_TIMEOUT,
+  KLARVESIMO_RECOGNITION_HOTWORD_MAXTIME,
+  KLARVESIMO_RECOGNITION_GRAMMAR_LOAD_FAILURE,
+  KLARVESIMO_RECOGNITION_GRAMMAR_COMPILATION_FAILURE,
+  KLARVESIMO_RECOGNITION_RECOGNIZER_ERROR,
+  KLARVESIMO_RECOGNITION_SPEECH_TOO_EARLY,
+  KLARVESIMO_RECOGNITION_SUCCESS_MAXTIME,
+  KLARVESIMO_RECOGNITION_URI_FAILURE,
+  KLARVESIMO_RECOGNITION_LANGUAGE_UNSUPPORTED,
+  KLARVESIMO_RECOGNITION_CANCELLED,
+  KLARVESIMO_RECOGNITION_SEMANTICS_FAILURE,
+  KLARVESIMO_RECOGNITION_PARTIAL_MATCH,
+  KLARVESIMO_RECOGNITION_PARTIAL_MATCH_MAXTIME,
+  KLARVESIMO_RECOGNITION_NO_MATCH_MAXTIME,
+  KLARVESIMO_RECOGNITION_CAUSES /* how many there are */
+};
+
+/* The engine's report that the active request has ended: writes the event for it to the front of out.
  *
- * A report names no prompt: it ends the one that is the first held one at this call. So a late report ends the wrong
+ *  - On a synthesizer that is SPEAK-COMPLETE, and the next prompt, if there is one, is speaking. The score is not
+ *    looked at.
+ *  - On a recognizer it is RECOGNITION-COMPLETE. A success (000 or 008) whose score is not greater than the request's
+ *    own threshold counts as 001, no match: the threshold is 0 where the request gave none, and no score is greater
+ *    than bits that are no number. After a success the next recognition, if there is one, is active. Any other cause,
+ *    also one that only counts as such, ends the waiting ones too: an event with 011, cancelled, follows for each, end
+ *    to end in queue order. When none is left, the channel is recognized.
+ *
+ * 0, 7, 8, 9, 11 or 21. A score that is no number gets 11 on a recognizer whatever the cause is; an infinity is a
+ * number. 7 is about all events of the call together, and then none is written: KLARVESIMO_LONGEST_REPORT bytes of room
+ * never meet it, KLARVESIMO_LONGEST_ANSWER on a synthesizer. `written` is set always, to 0 where the call is refused;
+ * bytes of out past it stay as they were.
+ *
+ * A report names no request: it ends the one that is the first held one at this call. So a late report ends the wrong
  * one: after SPEAK 7, SPEAK 8 and STOP 7, the engine's late end of 7 would be taken for the end of 8, which was never
  * spoken. What the caller must do about that:
  *
- *  - after every call, compare the first id of klarvesimo_held with the prompt that the engine plays, and
- *    channel[KLARVESIMO_CHANNEL_STATE] with whether it speaks; and start, stop, pause or resume the engine accordingly;
- *  - keep with each end that the engine tells of the id of its prompt, and report it only where that is the first held
+ *  - after every call, compare the first id of klarvesimo_held with the request that the engine serves, and
+ *    channel[KLARVESIMO_CHANNEL_STATE] with whether it speaks or recognizes; and start, stop, pause or resume the
+ *    engine accordingly;
+ *  - keep with each end that the engine tells of the id of its request, and report it only where that is the first held
  *    one; else drop it;
- *  - where KLARVESIMO_NOT_SPEAKING is returned for the first held one, that is paused: keep the report, and give it
- *    again once the state is KLARVESIMO_SPEAKING. */
-uint32_t klarvesimo_report(uint64_t *channel, uint32_t cause, uint8_t *out, uint64_t room, uint64_t *written);
+ *  - where KLARVESIMO_NOT_SPEAKING is returned for the first held one, that is a paused prompt: keep the report, and
+ *    give it again once the state is KLARVESIMO_SPEAKING. */
+uint32_t klarvesimo_report(uint64_t *channel, uint32_t cause, float score, uint8_t *out, uint64_t room,
+                           uint64_t *written);
 
-/* The ids of the outstanding SPEAKs, in queue order, to the front of ids, and how many they are to `count`; the ids
+/* The ids of the outstanding requests, in queue order, to the front of ids, and how many they are to `count`; the ids
  * past them stay as they were. 0; 7 where there are more than `room`; or 21. Where it is refused, `count` is set to 0.
  * KLARVESIMO_MOST_HELD of room never meet 7. */
 uint32_t klarvesimo_held(const uint64_t *channel, uint64_t *ids, uint64_t room, uint64_t *count);

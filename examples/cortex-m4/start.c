@@ -1,5 +1,6 @@
 /* What a Cortex-M4 without an operating system needs before main: its vectors, the memory as C wants it, and the
- * floating-point registers, which newlib's printf saves. The stack is painted, so that its use can be told at the end.
+ * floating-point registers, which the library and newlib's printf use. The stack is painted, so that its use can be
+ * told at the end.
  * Standard output and error are semihosting's: a debugger's, or qemu's. */
 #include <stdint.h>
 #include <stdio.h>

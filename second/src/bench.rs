@@ -7,9 +7,15 @@ use crate::kept::{self, Kept};
 use crate::start_line::RequestState;
 use crate::writing::{with_own_digits, Answer, Ids, Outgoing};
 
-const NAME: &[u8] = b"7f3a@speechsynth";
+const NAME: &str = "7f3a@speechsynth";
+const RECOGNIZER: &str = "7f3a@speechrecog";
+const LONGEST_RECOGNIZER: &str = "0123456789abcdef0123456789abcdef@speechrecog";
 /// What no answer is longer than.
 const ROOM: usize = 305;
+/// What no report is longer than.
+const REPORT_ROOM: usize = 1250;
+/// Grammar-compilation-failure, the longest cause: it ends all.
+const LONGEST_CAUSE: u32 = 5;
 
 fn speak_of(fields: &str, size: &str, body: &str) -> Vec<u8> {
     let mut message = format!(
@@ -80,72 +86,107 @@ fn write(name: &[u8], answer: Answer, count: usize) -> Option<usize> {
 }
 
 /// A request with what follows its id, and the stated length that fits.
-fn request(method: &str, id: u32, rest: &str) -> Vec<u8> {
-    let line = format!("{method} {id}\r\nChannel-Identifier:7f3a@speechsynth\r\n{rest}");
+fn request(name: &str, method: &str, id: u32, rest: &str) -> Vec<u8> {
+    let line = format!("{method} {id}\r\nChannel-Identifier:{name}\r\n{rest}");
     let size = with_own_digits("MRCP/2.0  ".len() + line.len());
     format!("MRCP/2.0 {size} {line}").into_bytes()
 }
 
 fn speak(id: u32) -> Vec<u8> {
     let rest = "Content-Type:text/plain\r\nContent-Length:2\r\n\r\nHi";
-    request("SPEAK", id, rest)
+    request(NAME, "SPEAK", id, rest)
 }
 
-/// One call, a message's or, without one, the engine's report; how many bytes it wrote.
-fn call(channel: &mut Kept, message: Option<&[u8]>, output: &mut [u8]) -> Option<usize> {
-    let outcome = match message {
-        Some(input) => channel.handle(input, output),
-        None => channel.report(0, output),
+fn recognize(name: &str, id: u32) -> Vec<u8> {
+    let rest = "Content-Type:application/srgs+xml\r\nConfidence-Threshold:0.5\r\n\
+                Content-Length:2\r\n\r\nHi";
+    request(name, "RECOGNIZE", id, rest)
+}
+
+/// What is called: with a client's message, or with the engine's cause.
+enum Call {
+    Message(Vec<u8>),
+    Report(u32),
+}
+
+/// One call; how many bytes it wrote.
+fn call(channel: &mut Kept, what: &Call, output: &mut [u8]) -> Option<usize> {
+    let outcome = match what {
+        Call::Message(input) => channel.handle(input, output),
+        Call::Report(cause) => channel.report(*cause, 0.0, output),
     };
     (outcome.number == 0).then_some(outcome.written)
 }
 
-/// A channel with this many outstanding, from 1 on.
-fn prepared(outstanding: u32) -> Option<Kept> {
-    let mut channel = Kept::open(NAME).0;
-    for id in 1..=outstanding {
-        call(&mut channel, Some(&speak(id)), &mut [0; ROOM])?;
+/// A channel after these calls.
+fn prepared_by(name: &str, calls: impl Iterator<Item = Call>) -> Option<Kept> {
+    let mut channel = Kept::open(name.as_bytes()).0;
+    for what in calls {
+        call(&mut channel, &what, &mut [0; ROOM])?;
     }
     Some(channel)
+}
+
+/// A synthesizer with this many outstanding, from 1 on.
+fn prepared(outstanding: u32) -> Option<Kept> {
+    let speaks = (1..=outstanding).map(|id| Call::Message(speak(id)));
+    prepared_by(NAME, speaks)
+}
+
+/// A recognizer with eight outstanding, from this id on.
+fn prepared_recognizer(name: &str, first: u32) -> Option<Kept> {
+    let recognizes = (0..8).map(|place| Call::Message(recognize(name, first + place)));
+    prepared_by(name, recognizes)
 }
 
 /// A channel with one outstanding after so many calls: a SPEAK, and then
 /// SPEAK, CONTROL and a report in turn. The ids have one width.
 fn prepared_after(calls: u32) -> Option<Kept> {
-    let mut channel = prepared(0)?;
-    for (turn, id) in (0..calls).zip(1_000_000..) {
-        let message = match turn % 3 {
-            0 if turn > 0 => None,
-            2 => Some(request("CONTROL", id, "\r\n")),
-            _ => Some(speak(id)),
-        };
-        call(&mut channel, message.as_deref(), &mut [0; ROOM])?;
-    }
-    Some(channel)
+    let turns = (0..calls)
+        .zip(1_000_000..)
+        .map(|(turn, id)| match turn % 3 {
+            0 if turn > 0 => Call::Report(0),
+            2 => Call::Message(request(NAME, "CONTROL", id, "\r\n")),
+            _ => Call::Message(speak(id)),
+        });
+    prepared_by(NAME, turns)
 }
 
-/// The channel before the call, and its message; none for a report.
-fn call_of(case: &str) -> Option<(Kept, Option<Vec<u8>>)> {
+/// The channel before the call, and the call.
+fn call_of(case: &str) -> Option<(Kept, Call)> {
     let list = "Active-Request-Id-List:16,15,14,13,12,11,10,9,8,7,6,5,4,3,2,1\r\n\r\n";
+    let message = |name, method, id, rest| Call::Message(request(name, method, id, rest));
     Some(match case {
-        "call-speak" => (prepared(0)?, message_of("read-3")),
-        "call-stop-16" => (prepared(16)?, Some(request("STOP", 17, "\r\n"))),
-        "call-stop-list-16" => (prepared(16)?, Some(request("STOP", 17, list))),
-        "call-report-1" => (prepared(1)?, None),
-        "call-report-16" => (prepared(16)?, None),
-        "call-after-0001" => (prepared_after(1)?, Some(speak(2_000_000))),
-        "call-after-1000" => (prepared_after(1000)?, Some(speak(2_000_000))),
+        "call-speak" => (prepared(0)?, Call::Message(message_of("read-3")?)),
+        "call-stop-16" => (prepared(16)?, message(NAME, "STOP", 17, "\r\n")),
+        "call-stop-list-16" => (prepared(16)?, message(NAME, "STOP", 17, list)),
+        "call-report-1" => (prepared(1)?, Call::Report(0)),
+        "call-report-16" => (prepared(16)?, Call::Report(0)),
+        "call-recognize" => (
+            Kept::open(RECOGNIZER.as_bytes()).0,
+            Call::Message(recognize(RECOGNIZER, 7)),
+        ),
+        "call-stop-8" => (
+            prepared_recognizer(RECOGNIZER, 1)?,
+            message(RECOGNIZER, "STOP", 9, "\r\n"),
+        ),
+        "call-report-8" => (
+            prepared_recognizer(LONGEST_RECOGNIZER, u32::MAX - 8)?,
+            Call::Report(LONGEST_CAUSE),
+        ),
+        "call-after-0001" => (prepared_after(1)?, Call::Message(speak(2_000_000))),
+        "call-after-1000" => (prepared_after(1000)?, Call::Message(speak(2_000_000))),
         _ => return None,
     })
 }
 
 /// Each call is made on a copy of the channel that was prepared.
-fn calls(prepared: &Kept, message: Option<&[u8]>, count: usize) -> Option<usize> {
-    let mut output = [0; ROOM];
+fn calls(prepared: &Kept, what: &Call, count: usize) -> Option<usize> {
+    let mut output = [0; REPORT_ROOM];
     let mut sum = 0;
     for _ in 0..count {
         let mut channel = *black_box(prepared);
-        sum += call(&mut channel, black_box(message), black_box(&mut output))?;
+        sum += call(&mut channel, black_box(what), black_box(&mut output))?;
         black_box(&channel);
     }
     Some(sum)
@@ -168,7 +209,7 @@ fn reads(case: &str, message: &[u8], count: usize) -> Option<usize> {
 fn opens(count: usize) -> usize {
     let mut sum = 0;
     for _ in 0..count {
-        let (channel, number) = black_box(Kept::open(black_box(NAME)));
+        let (channel, number) = black_box(Kept::open(black_box(NAME.as_bytes())));
         sum += channel.0[kept::SIZE] as usize + number as usize;
     }
     sum
@@ -194,8 +235,8 @@ pub fn run(case: &str, count: usize) -> Option<usize> {
     if let Some((name, answer)) = answer_of(case) {
         return write(&name, answer, count);
     }
-    if let Some((channel, message)) = call_of(case) {
-        return calls(&channel, message.as_deref(), count);
+    if let Some((channel, what)) = call_of(case) {
+        return calls(&channel, &what, count);
     }
     reads(case, &message_of(case)?, count)
 }

@@ -1,15 +1,12 @@
 //! The two calls on a channel: a client's message and an engine's report.
 
-use crate::channel::{Channel, State};
+use crate::channel::{Channel, Kind};
 use crate::framing::{frame, Frame};
 use crate::judgement::{judge, Request};
 use crate::message::start;
 use crate::refusal::Refusal;
 use crate::start_line::StartLine;
-use crate::writing::{Event, Outgoing};
-
-/// "Engine cause above 7" is refused.
-const LAST_CAUSE: u32 = 7;
+use crate::writing::{cause_word, Events, Outgoing};
 
 /// What a call returns: the number, the count consumed and the count written.
 #[derive(Clone, Copy, Debug, PartialEq, Eq)]
@@ -62,20 +59,28 @@ impl Channel {
         }
     }
 
-    /// One engine report: 21, then 9, then 8, then 7.
-    pub fn report(&mut self, cause: u32, output: &mut [u8]) -> Outcome {
+    /// One engine report: 21, then 9, then 11, then 8, then 7. The score is
+    /// a recognizer's; "a synthesizer's score is not judged".
+    pub fn report(&mut self, cause: u32, score: f32, output: &mut [u8]) -> Outcome {
         if !self.is_sound() {
             return Outcome::refused(Refusal::NotSound, 0);
         }
-        if cause > LAST_CAUSE {
+        let kind = self.kind();
+        if cause_word(kind, cause).is_none() {
             return Outcome::refused(Refusal::NoSuchCause, 0);
         }
-        if self.state != State::Speaking {
-            return Outcome::refused(Refusal::NothingSpeaking, 0);
+        if kind == Kind::Recognizer && score.is_nan() {
+            return Outcome::refused(Refusal::NoScore, 0);
+        }
+        if self.state != kind.at_work() {
+            return Outcome::refused(Refusal::NothingActive, 0);
         }
         let mut next = *self;
-        let id = next.complete_active();
-        match Outgoing::Event(Event { id, cause }).write(self.name.bytes(), output) {
+        let (cause, ids) = match kind {
+            Kind::Synthesizer => (cause, next.complete_speech()),
+            Kind::Recognizer => next.complete_recognition(cause, score),
+        };
+        match (Events { kind, cause, ids }).write(self.name.bytes(), output) {
             None => Outcome::refused(Refusal::NoRoom, 0),
             Some(written) => {
                 *self = next;

@@ -1,24 +1,74 @@
 //! The channel: what is kept of it, when it is sound, and its opening.
 
+use crate::level::Level;
 use crate::octets::{is, NAME};
 use crate::refusal::Refusal;
 
-/// "Outstanding SPEAKs: at most 16, the active one counted."
+/// The most that are outstanding on a channel of any kind.
 pub const MOST_OUTSTANDING: usize = 16;
-pub const RESOURCE: &[u8] = b"@speechsynth";
-/// "1 to 32 ASCII letters or digits, then `@speechsynth`."
+/// "1 to 32 ASCII letters or digits, then" the resource.
 const LONGEST_FIRST_PART: usize = 32;
-pub const LONGEST_NAME: usize = LONGEST_FIRST_PART + RESOURCE.len();
+pub const LONGEST_NAME: usize = LONGEST_FIRST_PART + Kind::Synthesizer.resource().len();
+
+/// Which resource a channel is for; its name tells.
+#[derive(Clone, Copy, Debug, PartialEq, Eq)]
+pub enum Kind {
+    Synthesizer,
+    Recognizer,
+}
+
+impl Kind {
+    /// By how the name ends, whatever stands before; any other name is a synthesizer's.
+    pub fn of_name(name: &[u8]) -> Kind {
+        if name.ends_with(Kind::Recognizer.resource()) {
+            Kind::Recognizer
+        } else {
+            Kind::Synthesizer
+        }
+    }
+
+    pub const fn resource(self) -> &'static [u8] {
+        match self {
+            Kind::Synthesizer => b"@speechsynth",
+            Kind::Recognizer => b"@speechrecog",
+        }
+    }
+
+    /// "Outstanding SPEAKs: at most 16, the active one counted"; on a
+    /// recognizer "at most 8 outstanding".
+    pub const fn most_outstanding(self) -> usize {
+        match self {
+            Kind::Synthesizer => MOST_OUTSTANDING,
+            Kind::Recognizer => 8,
+        }
+    }
+
+    /// The state in which the engine is at work and may report.
+    pub fn at_work(self) -> State {
+        match self {
+            Kind::Synthesizer => State::Speaking,
+            Kind::Recognizer => State::Recognizing,
+        }
+    }
+}
 
 #[derive(Clone, Copy, Debug, PartialEq, Eq)]
 pub enum State {
     Idle,
     Speaking,
     Paused,
+    Recognizing,
+    Recognized,
 }
 
 impl State {
-    pub const ALL: [State; 3] = [State::Idle, State::Speaking, State::Paused];
+    pub const ALL: [State; 5] = [
+        State::Idle,
+        State::Speaking,
+        State::Paused,
+        State::Recognizing,
+        State::Recognized,
+    ];
 
     pub fn number(self) -> u64 {
         self as u64
@@ -35,6 +85,8 @@ impl State {
             State::Idle => "idle",
             State::Speaking => "speaking",
             State::Paused => "paused",
+            State::Recognizing => "recognizing",
+            State::Recognized => "recognized",
         }
     }
 }
@@ -64,9 +116,9 @@ impl Name {
     }
 }
 
-/// "Channel name: 1 to 32 ASCII letters or digits, then `@speechsynth`."
+/// "1 to 32 ASCII letters or digits, then `@speechsynth`", or `@speechrecog`.
 pub fn is_well_formed(name: &[u8]) -> bool {
-    match name.strip_suffix(RESOURCE) {
+    match name.strip_suffix(Kind::of_name(name).resource()) {
         None => false,
         Some(first) => {
             (1..=LONGEST_FIRST_PART).contains(&first.len())
@@ -75,36 +127,51 @@ pub fn is_well_formed(name: &[u8]) -> bool {
     }
 }
 
-/// One outstanding SPEAK.
-#[derive(Clone, Copy, Debug, Default, PartialEq, Eq)]
-pub struct Speak {
+/// One outstanding SPEAK or RECOGNIZE.
+#[derive(Clone, Copy, Debug, PartialEq, Eq)]
+pub struct Held {
     pub id: u32,
+    /// Barge-in asks a SPEAK; a RECOGNIZE is never asked.
     pub killable: bool,
+    /// The level that a RECOGNIZE gave.
+    pub threshold: Level,
 }
 
-/// The outstanding SPEAKs in order, the active one first.
+impl Held {
+    /// What a SPEAK is without Kill-On-Barge-In and a RECOGNIZE without Confidence-Threshold.
+    pub fn by_default(id: u32) -> Held {
+        Held {
+            id,
+            killable: true,
+            threshold: Level(0),
+        }
+    }
+}
+
+/// The outstanding requests in order, the active one first.
 #[derive(Clone, Copy, Debug, PartialEq, Eq)]
 pub struct Queue {
-    stored: [Speak; MOST_OUTSTANDING],
+    stored: [Held; MOST_OUTSTANDING],
     count: usize,
 }
 
 impl Queue {
     pub const EMPTY: Queue = Queue {
-        stored: [Speak {
+        stored: [Held {
             id: 0,
             killable: false,
+            threshold: Level(0),
         }; MOST_OUTSTANDING],
         count: 0,
     };
 
-    pub fn outstanding(&self) -> &[Speak] {
+    pub fn outstanding(&self) -> &[Held] {
         &self.stored[..self.count]
     }
 
     /// At the end, where less than 16 are outstanding.
-    pub fn add(&mut self, speak: Speak) {
-        self.stored[self.count] = speak;
+    pub fn add(&mut self, held: Held) {
+        self.stored[self.count] = held;
         self.count += 1;
     }
 }
@@ -142,14 +209,33 @@ impl Channel {
         }
     }
 
+    pub fn kind(&self) -> Kind {
+        Kind::of_name(self.name.bytes())
+    }
+
     /// "A channel is sound if its name is well formed, it is idle exactly when
     /// nothing is outstanding, at most 16 are, and their ids rise in queue order
-    /// with none above the last seen (none seen: idle)."
+    /// with none above the last seen (none seen: idle)." Of a recognizer, "sound
+    /// asks for that rule of recognizing and at most 8 outstanding, the rest as in 01".
     pub fn is_sound(&self) -> bool {
         is_well_formed(self.name.bytes())
-            && (self.state == State::Idle) == self.queue.outstanding().is_empty()
+            && self.state_fits()
+            && self.queue.outstanding().len() <= self.kind().most_outstanding()
             && self.ids_rise()
             && self.none_above_the_last()
+    }
+
+    /// A recognizer is "recognizing (exactly while any is outstanding)"; no
+    /// kind has a state of the other.
+    fn state_fits(&self) -> bool {
+        let none = self.queue.outstanding().is_empty();
+        match (self.kind(), self.state) {
+            (_, State::Idle) => none,
+            (Kind::Synthesizer, State::Speaking | State::Paused) => !none,
+            (Kind::Recognizer, State::Recognizing) => !none,
+            (Kind::Recognizer, State::Recognized) => none,
+            _ => false,
+        }
     }
 
     fn ids_rise(&self) -> bool {
@@ -160,16 +246,12 @@ impl Channel {
     fn none_above_the_last(&self) -> bool {
         match self.last {
             None => self.state == State::Idle,
-            Some(last) => self
-                .queue
-                .outstanding()
-                .iter()
-                .all(|speak| speak.id <= last),
+            Some(last) => self.held().all(|id| id <= last),
         }
     }
 
     /// The ids that the channel holds, in queue order.
     pub fn held(&self) -> impl Iterator<Item = u32> + '_ {
-        self.queue.outstanding().iter().map(|speak| speak.id)
+        self.queue.outstanding().iter().map(|held| held.id)
     }
 }

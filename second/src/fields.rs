@@ -8,7 +8,8 @@ pub const MOST_FIELDS: usize = 32;
 const LONGEST_NAME: usize = 64;
 const LENGTH_DIGITS: usize = 19;
 
-/// "Seven names are known." The number of each is its bit in the mask.
+/// "Seven names are known", and Confidence-Threshold "becomes known on both
+/// kinds". The number of each is its bit in the mask.
 #[derive(Clone, Copy, Debug, PartialEq, Eq)]
 pub enum Known {
     ChannelIdentifier,
@@ -18,9 +19,10 @@ pub enum Known {
     KillOnBargeIn,
     ProxySyncId,
     LoggingTag,
+    ConfidenceThreshold,
 }
 
-const KNOWN: [(Known, &[u8]); 7] = [
+const KNOWN: [(Known, &[u8]); 8] = [
     (Known::ChannelIdentifier, b"Channel-Identifier"),
     (Known::ContentLength, b"Content-Length"),
     (Known::ContentType, b"Content-Type"),
@@ -28,6 +30,7 @@ const KNOWN: [(Known, &[u8]); 7] = [
     (Known::KillOnBargeIn, b"Kill-On-Barge-In"),
     (Known::ProxySyncId, b"Proxy-Sync-Id"),
     (Known::LoggingTag, b"Logging-Tag"),
+    (Known::ConfidenceThreshold, b"Confidence-Threshold"),
 ];
 
 impl Known {

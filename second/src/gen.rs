@@ -15,6 +15,7 @@ mod write;
 
 use std::io::{self, Write};
 
+use crate::channel::Kind as Resource;
 use batch::Batch;
 use random::Random;
 
@@ -22,7 +23,10 @@ use random::Random;
 pub enum Kind {
     Frame,
     Read,
+    /// Calls on synthesizers.
     Calls,
+    /// Calls on recognizers.
+    Recog,
     Write,
     All,
 }
@@ -33,6 +37,7 @@ impl Kind {
             "frame" => Some(Kind::Frame),
             "read" => Some(Kind::Read),
             "calls" => Some(Kind::Calls),
+            "recog" => Some(Kind::Recog),
             "write" => Some(Kind::Write),
             "all" => Some(Kind::All),
             _ => None,
@@ -60,7 +65,8 @@ fn fill(batch: &mut Batch, random: &mut Random, kind: Kind, turn: usize) {
     match kind {
         Kind::Frame => wire::frames(batch, random),
         Kind::Read => wire::reads(batch, random),
-        Kind::Calls => conversation::calls(batch, random),
+        Kind::Calls => conversation::calls(batch, random, Resource::Synthesizer),
+        Kind::Recog => conversation::calls(batch, random, Resource::Recognizer),
         Kind::Write => write::writes(batch, random, turn),
         Kind::All => mixture(batch, random),
     }
@@ -68,9 +74,10 @@ fn fill(batch: &mut Batch, random: &mut Random, kind: Kind, turn: usize) {
 
 /// Some of each kind; a conversation is long, so it is drawn less often.
 fn mixture(batch: &mut Batch, random: &mut Random) {
-    match random.below(8) {
+    match random.below(10) {
         0 | 1 => (0..30).for_each(|_| wire::frames(batch, random)),
         2..=4 => (0..30).for_each(|_| wire::reads(batch, random)),
-        _ => conversation::calls(batch, random),
+        5 | 6 => conversation::calls(batch, random, Resource::Recognizer),
+        _ => conversation::calls(batch, random, Resource::Synthesizer),
     }
 }

@@ -1,8 +1,9 @@
 //! The order of judgement for a request, in eleven steps.
 
-use crate::channel::{Channel, State};
+use crate::channel::{Channel, Held, Kind, State};
 use crate::fields::{self, Field, Fields, Known};
 use crate::framing::Version;
+use crate::level::Level;
 use crate::start_line::RequestState;
 use crate::states::list_of_ids;
 use crate::writing::{Answer, Ids};
@@ -33,19 +34,38 @@ pub enum Method {
     Resume,
     Control,
     BargeInOccurred,
+    Recognize,
+    StartInputTimers,
 }
 
 impl Method {
-    pub fn of_name(name: &[u8]) -> Option<Method> {
-        match name {
-            b"SPEAK" => Some(Method::Speak),
-            b"STOP" => Some(Method::Stop),
-            b"PAUSE" => Some(Method::Pause),
-            b"RESUME" => Some(Method::Resume),
-            b"CONTROL" => Some(Method::Control),
-            b"BARGE-IN-OCCURRED" => Some(Method::BargeInOccurred),
+    /// None for a method that channels of this kind lack.
+    pub fn of_name(kind: Kind, name: &[u8]) -> Option<Method> {
+        match (kind, name) {
+            (_, b"STOP") => Some(Method::Stop),
+            (Kind::Synthesizer, b"SPEAK") => Some(Method::Speak),
+            (Kind::Synthesizer, b"PAUSE") => Some(Method::Pause),
+            (Kind::Synthesizer, b"RESUME") => Some(Method::Resume),
+            (Kind::Synthesizer, b"CONTROL") => Some(Method::Control),
+            (Kind::Synthesizer, b"BARGE-IN-OCCURRED") => Some(Method::BargeInOccurred),
+            (Kind::Recognizer, b"RECOGNIZE") => Some(Method::Recognize),
+            (Kind::Recognizer, b"START-INPUT-TIMERS") => Some(Method::StartInputTimers),
             _ => None,
         }
+    }
+
+    /// The types of body that the method wants; none where it wants no body.
+    fn types(self) -> &'static [&'static [u8]] {
+        match self {
+            Method::Speak => &[b"text/plain", b"application/ssml+xml", b"text/uri-list"],
+            Method::Recognize => &[b"application/srgs+xml", b"text/uri-list"],
+            _ => &[],
+        }
+    }
+
+    /// SPEAK, and RECOGNIZE standing for it.
+    fn wants_content(self) -> bool {
+        !self.types().is_empty()
     }
 }
 
@@ -60,8 +80,6 @@ pub struct Request<'a> {
 }
 
 const SPOKEN_VERSION: Version = Version { major: 2, minor: 0 };
-
-const SPEAK_TYPES: [&[u8]; 3] = [b"text/plain", b"application/ssml+xml", b"text/uri-list"];
 
 /// Judges a request and does what it asks. "A failed request answers COMPLETE
 /// and, but for the last id, changes nothing."
@@ -105,9 +123,13 @@ fn after_the_id_counts(
     request: &Request,
     fields: &Fields,
 ) -> Result<Answer, Status> {
-    let method = Method::of_name(request.name);
+    let method = Method::of_name(channel.kind(), request.name);
     // 6: with an unknown method none of these fields acts.
-    let killable = kill_on_barge_in(method, fields)?;
+    let held = Held {
+        killable: kill_on_barge_in(method, fields)?,
+        threshold: confidence_threshold(method, fields)?,
+        ..Held::by_default(request.id)
+    };
     let list = active_request_id_list(method, fields)?;
     // 7
     let method = method.ok_or(Status::METHOD_NOT_ALLOWED)?;
@@ -115,9 +137,9 @@ fn after_the_id_counts(
     if !is_valid(method, channel.state) {
         return Err(Status::NOT_VALID_IN_STATE);
     }
-    if method == Method::Speak {
+    if method.wants_content() {
         // 9
-        speak_content(fields)?;
+        content(method, fields)?;
         // 10
         if channel.is_full() {
             return Err(Status::OPERATION_FAILED);
@@ -125,19 +147,29 @@ fn after_the_id_counts(
     }
     // 11
     let status = success(method, fields);
-    let mut state = RequestState::Complete;
+    let (state, ids) = act(channel, method, held, list);
+    Ok(answer(request, status, state, ids))
+}
+
+/// Does what the method asks: the state of the request after it, and the ids to list.
+/// "All but SPEAK's successes answer COMPLETE", and RECOGNIZE's.
+fn act(
+    channel: &mut Channel,
+    method: Method,
+    held: Held,
+    list: Option<&[u8]>,
+) -> (RequestState, Ids) {
     let ids = match method {
-        Method::Speak => {
-            state = channel.speak(request.id, killable);
-            Ids::NONE
-        }
+        Method::Speak | Method::Recognize => return (channel.accept(held), Ids::NONE),
         Method::Stop => channel.stop(list),
         Method::BargeInOccurred => channel.barge_in(),
         Method::Pause => channel.pause(),
         Method::Resume => channel.resume(),
         Method::Control => channel.control(),
+        // "No change, no list."
+        Method::StartInputTimers => Ids::NONE,
     };
-    Ok(answer(request, status, state, ids))
+    (RequestState::Complete, ids)
 }
 
 fn answer(request: &Request, status: Status, state: RequestState, list: Ids) -> Answer {
@@ -163,6 +195,17 @@ fn kill_on_barge_in(method: Option<Method>, fields: &Fields) -> Result<bool, Sta
     }
 }
 
+/// Judgement 6 for Confidence-Threshold, which acts in RECOGNIZE only; the
+/// default is 0.
+fn confidence_threshold(method: Option<Method>, fields: &Fields) -> Result<Level, Status> {
+    match fields.value(Known::ConfidenceThreshold) {
+        Some(value) if method == Some(Method::Recognize) => {
+            Level::of_value(value).ok_or(Status::ILLEGAL_VALUE)
+        }
+        _ => Ok(Level(0)),
+    }
+}
+
 /// Judgement 6 for Active-Request-Id-List, which acts in STOP only.
 fn active_request_id_list<'a>(
     method: Option<Method>,
@@ -177,17 +220,20 @@ fn active_request_id_list<'a>(
     }
 }
 
-/// Judgement 8: PAUSE, RESUME and CONTROL want a SPEAK; the others are never 402.
+/// Judgement 8: PAUSE, RESUME and CONTROL want a SPEAK, START-INPUT-TIMERS is
+/// for "recognizing only, else 402"; the others are never 402.
 fn is_valid(method: Method, state: State) -> bool {
     match method {
-        Method::Speak | Method::Stop | Method::BargeInOccurred => true,
+        Method::Speak | Method::Stop | Method::BargeInOccurred | Method::Recognize => true,
         Method::Pause | Method::Resume | Method::Control => state != State::Idle,
+        Method::StartInputTimers => state == State::Recognizing,
     }
 }
 
 /// Judgement 9: "SPEAK without Content-Length or Content-Type 406; with an
-/// empty body 408; with a type other than [the three] (any case, nothing after) 409".
-fn speak_content(fields: &Fields) -> Result<(), Status> {
+/// empty body 408; with a type other than [its own] (any case, nothing after)
+/// 409". "RECOGNIZE wants length, type and body as SPEAK does."
+fn content(method: Method, fields: &Fields) -> Result<(), Status> {
     let length = fields.value(Known::ContentLength);
     let content_type = fields.value(Known::ContentType);
     let (Some(_), Some(content_type)) = (length, content_type) else {
@@ -196,7 +242,7 @@ fn speak_content(fields: &Fields) -> Result<(), Status> {
     if fields.body.is_empty() {
         return Err(Status::NO_CONTENT);
     }
-    let mut types = SPEAK_TYPES.iter();
+    let mut types = method.types().iter();
     if types.any(|known| content_type.eq_ignore_ascii_case(known)) {
         Ok(())
     } else {
@@ -218,7 +264,9 @@ fn success(method: Method, fields: &Fields) -> Status {
 fn is_ignored(method: Method, field: &Field) -> bool {
     match field.known {
         None => true,
-        Some(Known::ContentType | Known::KillOnBargeIn) => method != Method::Speak,
+        Some(Known::ContentType) => !method.wants_content(),
+        Some(Known::KillOnBargeIn) => method != Method::Speak,
+        Some(Known::ConfidenceThreshold) => method != Method::Recognize,
         Some(Known::ActiveRequestIdList) => method != Method::Stop,
         Some(Known::ChannelIdentifier | Known::ContentLength) => false,
         Some(Known::ProxySyncId | Known::LoggingTag) => false,

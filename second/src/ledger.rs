@@ -4,6 +4,7 @@
 
 use std::collections::HashSet;
 use std::fmt;
+use std::iter;
 
 use crate::fields::Known;
 use crate::framing::frame;
@@ -119,6 +120,13 @@ impl Ledger {
     }
 }
 
+const CLOSING_METHODS: [&[u8]; 2] = [b"STOP", b"BARGE-IN-OCCURRED"];
+
+/// Whether a success puts the id into accepted: "RECOGNIZE standing for SPEAK".
+pub fn is_accepted_method(method: &[u8]) -> bool {
+    [&b"SPEAK"[..], b"RECOGNIZE"].contains(&method)
+}
+
 /// "Method and id are read from the start line of the input's frame, the rest
 /// from the written bytes, as a reader gets them."
 pub fn entry_of_message(input: &[u8], number: u32, written: &[u8]) -> Result<Entry, Violation> {
@@ -126,38 +134,50 @@ pub fn entry_of_message(input: &[u8], number: u32, written: &[u8]) -> Result<Ent
         return Ok(Entry::Nothing);
     }
     let (method, id) = request_of(input).ok_or(Violation::Unreadable("a handled request"))?;
-    match method {
-        b"SPEAK" | b"STOP" | b"BARGE-IN-OCCURRED" => {}
-        _ => return Ok(Entry::Nothing),
+    let is_accepted = is_accepted_method(method);
+    if !is_accepted && !CLOSING_METHODS.contains(&method) {
+        return Ok(Entry::Nothing);
     }
     let answer = Violation::Unreadable("the answer written");
     let (status, list) = answer_of(written).ok_or(answer)?;
     if status != 200 && status != 201 {
         return Ok(Entry::Nothing);
     }
-    if method == b"SPEAK" {
+    if is_accepted {
         return Ok(Entry::Accepted(id));
     }
     Ok(list.map_or(Entry::Nothing, Entry::Closed))
 }
 
-/// "A report puts the id of each event written there."
+/// "A report puts the id of each event written there", 011 events too.
 pub fn entry_of_report(number: u32, written: &[u8]) -> Result<Entry, Violation> {
     if number != 0 {
         return Ok(Entry::Nothing);
     }
-    let mut ids = Vec::new();
-    let mut rest = written;
-    while !rest.is_empty() {
-        let unreadable = Violation::Unreadable("an event written");
-        let message = read(rest).map_err(|_| unreadable.clone())?;
-        let StartLine::Event { id, .. } = message.start else {
-            return Err(unreadable);
-        };
-        ids.push(id);
-        rest = &rest[message.length..];
-    }
+    let ids = messages(written).map(|message| match message?.start {
+        StartLine::Event { id, .. } => Some(id),
+        _ => None,
+    });
+    let ids = ids.collect::<Option<Vec<u32>>>();
+    let ids = ids.ok_or(Violation::Unreadable("an event written"))?;
     Ok(Entry::Closed(ids))
+}
+
+/// The messages that stand end to end in what was written; None, and it is
+/// the last, for bytes that are no message.
+pub fn messages(written: &[u8]) -> impl Iterator<Item = Option<Message<'_>>> {
+    let mut rest = written;
+    iter::from_fn(move || {
+        if rest.is_empty() {
+            return None;
+        }
+        let message = read(rest).ok();
+        let length = message
+            .as_ref()
+            .map_or(rest.len(), |message| message.length);
+        rest = &rest[length..];
+        Some(message)
+    })
 }
 
 /// Method and id of the first frame of the input.

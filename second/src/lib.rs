@@ -1,4 +1,5 @@
-//! The server end of one MRCPv2 control channel, written from document 01 alone.
+//! The server end of one MRCPv2 control channel, a synthesizer's or a recognizer's,
+//! written from documents 01 and 02 alone.
 //!
 //! One module for each section of the paper. Nothing here knows of the other
 //! implementation; the two are compared by the lines that they write.
@@ -12,6 +13,7 @@ pub mod gen;
 pub mod judgement;
 pub mod kept;
 pub mod ledger;
+pub mod level;
 pub mod message;
 pub mod octets;
 pub mod play;

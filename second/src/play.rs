@@ -63,8 +63,10 @@ impl Board {
         self.entered(outcome, entry)
     }
 
-    pub fn report(&mut self, cause: u32, room: usize) -> Call<'_> {
-        let outcome = self.channel.report(cause, &mut self.output[..room]);
+    /// The score comes as the bits of a single-precision number.
+    pub fn report(&mut self, cause: u32, score: u32, room: usize) -> Call<'_> {
+        let score = f32::from_bits(score);
+        let outcome = self.channel.report(cause, score, &mut self.output[..room]);
         let entry = entry_of_report(outcome.number, &self.output[..outcome.written]);
         self.entered(outcome, entry)
     }
@@ -77,7 +79,7 @@ impl Board {
         room: usize,
     ) -> Result<&[u8], Refusal> {
         if let Outgoing::Event(event) = message {
-            cause_word(event.cause).ok_or(Refusal::NoSuchCause)?;
+            cause_word(event.kind, event.cause).ok_or(Refusal::NoSuchCause)?;
         }
         let output = &mut self.output[..room];
         let size = message.write(name, output).ok_or(Refusal::NoRoom)?;
@@ -132,8 +134,8 @@ fn perform(board: &mut Board, command: Command, text: &mut Vec<u8>) -> Result<()
             put(text, &format!("message {number} {consumed} "));
             kept = put_call(text, call);
         }
-        Command::Report { cause, room } => {
-            let call = board.report(cause, room);
+        Command::Report { cause, room, score } => {
+            let call = board.report(cause, score, room);
             put(text, &format!("report {} ", call.outcome.number));
             kept = put_call(text, call);
         }

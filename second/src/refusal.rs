@@ -1,4 +1,4 @@
-//! The refusal numbers of document 01.
+//! The refusal numbers of documents 01 and 02.
 
 #[derive(Clone, Copy, Debug, PartialEq, Eq)]
 pub enum Refusal {
@@ -9,14 +9,15 @@ pub enum Refusal {
     StartLine,
     NoRequest,
     NoRoom,
-    NothingSpeaking,
+    NothingActive,
     NoSuchCause,
     ChannelName,
+    NoScore,
     NotSound,
 }
 
 impl Refusal {
-    pub const ALL: [Refusal; 11] = [
+    pub const ALL: [Refusal; 12] = [
         Refusal::MoreNeeded,
         Refusal::NoMessage,
         Refusal::TooLong,
@@ -24,9 +25,10 @@ impl Refusal {
         Refusal::StartLine,
         Refusal::NoRequest,
         Refusal::NoRoom,
-        Refusal::NothingSpeaking,
+        Refusal::NothingActive,
         Refusal::NoSuchCause,
         Refusal::ChannelName,
+        Refusal::NoScore,
         Refusal::NotSound,
     ];
 
@@ -39,9 +41,10 @@ impl Refusal {
             Refusal::StartLine => 5,
             Refusal::NoRequest => 6,
             Refusal::NoRoom => 7,
-            Refusal::NothingSpeaking => 8,
+            Refusal::NothingActive => 8,
             Refusal::NoSuchCause => 9,
             Refusal::ChannelName => 10,
+            Refusal::NoScore => 11,
             Refusal::NotSound => 21,
         }
     }
@@ -56,9 +59,10 @@ impl Refusal {
             Refusal::StartLine => "framed, start line malformed",
             Refusal::NoRequest => "framed, a response or event, no request",
             Refusal::NoRoom => "the exact answer is longer than the lent output",
-            Refusal::NothingSpeaking => "engine report while nothing is speaking (idle or paused)",
-            Refusal::NoSuchCause => "engine cause above 7",
+            Refusal::NothingActive => "engine report while neither speaking nor recognizing",
+            Refusal::NoSuchCause => "engine cause above 7, on a recognizer above 15",
             Refusal::ChannelName => "channel name malformed at opening",
+            Refusal::NoScore => "engine score that is no number",
             Refusal::NotSound => "the channel handed in is not sound",
         }
     }

@@ -2,8 +2,8 @@
 
 use std::io::{self, BufRead};
 
-use crate::channel::{State, MOST_OUTSTANDING};
-use crate::kept::{self, entry, Kept, NUMBERS};
+use crate::channel::{Kind, State, MOST_OUTSTANDING};
+use crate::kept::{self, Entry, Kept, NUMBERS};
 use crate::ledger::Violation;
 use crate::start_line::RequestState;
 use crate::writing::{Answer, Event, Ids};
@@ -11,6 +11,9 @@ use crate::writing::{Answer, Event, Ids};
 pub const MOST_BYTES: usize = 1_000_000;
 pub const MOST_ROOM: u32 = 1_000_000;
 const MOST_SHOWN: usize = 80;
+const BITS_DIGITS: usize = 8;
+/// In a queue: what 64 bits can keep twice of.
+const MOST_ID: u64 = u64::MAX / 2;
 
 #[derive(Clone, Debug, PartialEq, Eq)]
 pub enum Command {
@@ -24,6 +27,8 @@ pub enum Command {
     Report {
         cause: u32,
         room: usize,
+        /// The 32 bits of a single-precision number.
+        score: u32,
     },
     Respond {
         answer: Box<Answer>,
@@ -94,10 +99,8 @@ pub fn command(line: &[u8]) -> Result<Option<Command>, String> {
             room: room_of(room)?,
             input: hex(bytes)?,
         },
-        [b"report", cause, room] => Command::Report {
-            cause: number32("cause", cause)?,
-            room: room_of(room)?,
-        },
+        [b"report", cause, room] => report(cause, room, b"00000000")?,
+        [b"report", cause, room, score] => report(cause, room, score)?,
         [b"respond", state, status, id, name, ids, room] => {
             respond(state, status, id, name, ids, room)?
         }
@@ -224,7 +227,26 @@ fn room_of(word: &[u8]) -> Result<usize, String> {
     number("room", word, MOST_ROOM.into()).map(|room| room as usize)
 }
 
-/// The size is that of the name given; of its bytes as many as fit are kept.
+fn report(cause: &[u8], room: &[u8], score: &[u8]) -> Result<Command, String> {
+    Ok(Command::Report {
+        cause: number32("cause", cause)?,
+        room: room_of(room)?,
+        score: bits("score", score)?,
+    })
+}
+
+/// Exactly eight lower-case hexadecimal digits, the first the highest.
+fn bits(what: &str, word: &[u8]) -> Result<u32, String> {
+    let mut digits = word.iter();
+    let value = digits.try_fold(0, |value: u32, &byte| {
+        Some(value << 4 | u32::from(hex_digit(byte)?))
+    });
+    match value {
+        Some(value) if word.len() == BITS_DIGITS => Ok(value),
+        _ => Err(format!("{what} `{}` is not eight digits", shown(word))),
+    }
+}
+
 fn channel(
     name: &[u8],
     state: &[u8],
@@ -232,24 +254,23 @@ fn channel(
     queue: &[u8],
     count: Option<&[u8]>,
 ) -> Result<Command, String> {
-    let name = hex(name)?;
-    let queue = queue_of(queue)?;
-    let mut numbers = [0; NUMBERS];
-    numbers[kept::STATE] = state_of(state)?;
-    numbers[kept::LAST] = match last {
+    let mut kept = Kept([0; NUMBERS]);
+    kept.put_name(&hex(name)?);
+    let kind = kept.kind();
+    let queue = queue_of(kind, queue)?;
+    kept.0[kept::STATE] = state_of(state)?;
+    kept.0[kept::LAST] = match last {
         b"-" => 0,
         word => number("last id", word, u64::MAX - 1)? + 1,
     };
-    numbers[kept::COUNT] = match count {
+    kept.0[kept::COUNT] = match count {
         None => queue.len() as u64,
         Some(word) => number("count", word, u64::MAX)?,
     };
-    numbers[kept::SIZE] = name.len() as u64;
-    numbers[kept::QUEUE..][..queue.len()].copy_from_slice(&queue);
-    for (number, byte) in numbers[kept::NAME..].iter_mut().zip(name) {
-        *number = byte.into();
+    for (place, entry) in queue.into_iter().enumerate() {
+        kept.put_entry(kind, place, entry);
     }
-    Ok(Command::Channel(Box::new(Kept(numbers))))
+    Ok(Command::Channel(Box::new(kept)))
 }
 
 fn state_of(word: &[u8]) -> Result<u64, String> {
@@ -283,6 +304,7 @@ fn respond(
 
 fn complete(cause: &[u8], id: &[u8], name: &[u8], room: &[u8]) -> Result<Command, String> {
     let event = Event {
+        kind: Kind::Synthesizer,
         id: number32("id", id)?,
         cause: number32("cause", cause)?,
     };
@@ -312,39 +334,58 @@ fn ids_of(word: &[u8]) -> Result<Ids, String> {
     Ok(ids)
 }
 
-/// As `7+,8-`, `+` for killable, or `-` for none: at most 16 numbers.
-fn queue_of(word: &[u8]) -> Result<Vec<u64>, String> {
+/// Entries joined by commas, or `-` for none: at most as many as the kind has places.
+fn queue_of(kind: Kind, word: &[u8]) -> Result<Vec<Entry>, String> {
     let mut queue = Vec::new();
     if word == b"-" {
         return Ok(queue);
     }
+    let most = kind.most_outstanding();
     for part in word.split(|&byte| byte == b',') {
-        let (id, killable) = match part {
-            [id @ .., b'+'] => (id, true),
-            [id @ .., b'-'] => (id, false),
-            _ => return Err("a queue entry without `+` or `-`".to_string()),
-        };
-        if queue.len() == MOST_OUTSTANDING {
-            return Err(format!("more than {MOST_OUTSTANDING} queue entries"));
+        if queue.len() == most {
+            return Err(format!("more than {most} queue entries"));
         }
-        queue.push(entry(number("id", id, u64::MAX / 2)?, killable));
+        queue.push(match kind {
+            Kind::Synthesizer => speak_entry(part)?,
+            Kind::Recognizer => recognize_entry(part)?,
+        });
     }
     Ok(queue)
 }
 
-/// `channel HEX STATE LAST QUEUE`, and COUNT where it is above 16. The name is
-/// shown as bytes, as many as the size says and there are.
+/// As `7+` or `8-`, `+` for killable.
+fn speak_entry(part: &[u8]) -> Result<Entry, String> {
+    let (id, killable) = match part {
+        [id @ .., b'+'] => (id, true),
+        [id @ .., b'-'] => (id, false),
+        _ => return Err("a queue entry without `+` or `-`".to_string()),
+    };
+    Ok(Entry::new(number("id", id, MOST_ID)?, killable, 0))
+}
+
+/// As `7:3f000000`, with the bits of its threshold.
+fn recognize_entry(part: &[u8]) -> Result<Entry, String> {
+    let mut words = part.splitn(2, |&byte| byte == b':');
+    let (Some(id), Some(threshold)) = (words.next(), words.next()) else {
+        return Err("a queue entry without a threshold".to_string());
+    };
+    let id = number("id", id, MOST_ID)?;
+    Ok(Entry::new(id, true, bits("threshold", threshold)?.into()))
+}
+
+/// `channel HEX STATE LAST QUEUE`, and COUNT where it is above the entries
+/// that there are. The name is shown as bytes, as many as the size says and there are.
 pub fn put_channel(text: &mut Vec<u8>, kept: &Kept) {
-    let queue = kept.queue_numbers();
+    let queue = kept.entries(kept.shown_count());
     text.extend_from_slice(b"channel ");
-    put_words(text, kept, &kept.name_bytes(), queue);
+    put_words(text, kept, &kept.name_bytes(), &queue);
     if kept.0[kept::COUNT] > queue.len() as u64 {
         text.extend_from_slice(format!(" {}", kept.0[kept::COUNT]).as_bytes());
     }
 }
 
 /// `HEX STATE LAST QUEUE`, name and queue as given.
-pub fn put_words(text: &mut Vec<u8>, kept: &Kept, name: &[u8], queue: &[u64]) {
+pub fn put_words(text: &mut Vec<u8>, kept: &Kept, name: &[u8], queue: &[Entry]) {
     put_hex(text, name);
     let state = match State::of_number(kept.0[kept::STATE]) {
         Some(state) => state.word().to_string(),
@@ -355,16 +396,22 @@ pub fn put_words(text: &mut Vec<u8>, kept: &Kept, name: &[u8], queue: &[u64]) {
         number => (number - 1).to_string(),
     };
     text.extend_from_slice(format!(" {state} {last} ").as_bytes());
-    put_queue(text, queue);
-}
-
-fn put_queue(text: &mut Vec<u8>, queue: &[u64]) {
     if queue.is_empty() {
         text.push(b'-');
     }
-    for (place, number) in queue.iter().enumerate() {
-        let comma = if place == 0 { "" } else { "," };
-        let sign = if number & 1 == 1 { '+' } else { '-' };
-        text.extend_from_slice(format!("{comma}{}{sign}", number >> 1).as_bytes());
+    let entries: Vec<String> = queue
+        .iter()
+        .map(|entry| entry_word(kept.kind(), entry))
+        .collect();
+    text.extend_from_slice(entries.join(",").as_bytes());
+}
+
+/// Of a threshold the last 32 bits are shown.
+fn entry_word(kind: Kind, entry: &Entry) -> String {
+    let id = entry.number >> 1;
+    match kind {
+        Kind::Recognizer => format!("{id}:{:08x}", entry.threshold as u32),
+        Kind::Synthesizer if entry.number & 1 == 1 => format!("{id}+"),
+        Kind::Synthesizer => format!("{id}-"),
     }
 }

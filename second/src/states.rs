@@ -1,25 +1,37 @@
 //! States and queue: what each method and the engine's report do to a sound
-//! channel. The first outstanding SPEAK is the active one; idle means none.
+//! channel. The first outstanding request is the active one.
 
-use crate::channel::{Channel, Queue, Speak, State, MOST_OUTSTANDING};
+use crate::channel::{Channel, Held, Queue, State};
 use crate::octets::request_id;
 use crate::start_line::RequestState;
 use crate::writing::Ids;
 
 /// One bit for each place of the queue.
 type Places = u32;
+const FIRST: Places = 1;
+const ALL: Places = Places::MAX;
+
+const SUCCESS: u32 = 0;
+const NO_MATCH: u32 = 1;
+const SUCCESS_MAXTIME: u32 = 8;
+
+fn is_success(cause: u32) -> bool {
+    cause == SUCCESS || cause == SUCCESS_MAXTIME
+}
 
 impl Channel {
     pub fn is_full(&self) -> bool {
-        self.queue.outstanding().len() == MOST_OUTSTANDING
+        self.queue.outstanding().len() == self.kind().most_outstanding()
     }
 
-    /// SPEAK with less than 16 outstanding: "idle, becomes active and speaking,
-    /// IN-PROGRESS. Otherwise joins the end, PENDING."
-    pub fn speak(&mut self, id: u32, killable: bool) -> RequestState {
-        self.queue.add(Speak { id, killable });
-        if self.state == State::Idle {
-            self.state = State::Speaking;
+    /// SPEAK where there is room: "idle, becomes active and speaking, IN-PROGRESS.
+    /// Otherwise joins the end, PENDING." RECOGNIZE: "active if none is,
+    /// IN-PROGRESS, else waits, PENDING".
+    pub fn accept(&mut self, held: Held) -> RequestState {
+        let is_active = self.queue.outstanding().is_empty();
+        self.queue.add(held);
+        if is_active {
+            self.state = self.kind().at_work();
             RequestState::InProgress
         } else {
             RequestState::Pending
@@ -30,7 +42,7 @@ impl Channel {
     /// other ids are passed over."
     pub fn stop(&mut self, list: Option<&[u8]>) -> Ids {
         let ended = match list {
-            None => Places::MAX,
+            None => ALL,
             Some(value) => self.places_named(value),
         };
         self.end(ended)
@@ -40,7 +52,7 @@ impl Channel {
     /// active one is killable; otherwise nothing ends.
     pub fn barge_in(&mut self) -> Ids {
         match self.queue.outstanding().first() {
-            Some(active) if active.killable => self.end(Places::MAX),
+            Some(active) if active.killable => self.end(ALL),
             _ => Ids::NONE,
         }
     }
@@ -67,9 +79,33 @@ impl Channel {
     }
 
     /// The engine's report while speaking: the active one is over; "the next
-    /// becomes active and speaking, or idle". Gives the id that is over.
-    pub fn complete_active(&mut self) -> u32 {
-        self.end(1).all()[0]
+    /// becomes active and speaking, or idle". Gives the one id that is over.
+    pub fn complete_speech(&mut self) -> Ids {
+        self.end(FIRST)
+    }
+
+    /// The engine's report while recognizing. Gives the cause as it counts and
+    /// the ids that are over, the active one first.
+    ///
+    /// "With 000 or 008 the first waiting one becomes active; any other cause
+    /// also ends the waiting ones. None left: recognized."
+    pub fn complete_recognition(&mut self, cause: u32, score: f32) -> (u32, Ids) {
+        let counted = self.counted(cause, score);
+        let ended = self.end(if is_success(counted) { FIRST } else { ALL });
+        if self.queue.outstanding().is_empty() {
+            self.state = State::Recognized;
+        }
+        (counted, ended)
+    }
+
+    /// "A 000 or 008 whose score is not greater than that (default 0) counts as 001."
+    fn counted(&self, cause: u32, score: f32) -> u32 {
+        let active = self.queue.outstanding()[0];
+        if is_success(cause) && !active.threshold.is_below(score) {
+            NO_MATCH
+        } else {
+            cause
+        }
     }
 
     fn active(&self) -> Ids {
@@ -80,16 +116,16 @@ impl Channel {
         ids
     }
 
-    /// Ends the SPEAKs at the given places. The state stays, so that the next
+    /// Ends the requests at the given places. The state stays, so that the next
     /// one is active "in the same state"; "when none remains, idle".
     fn end(&mut self, places: Places) -> Ids {
         let mut ended = Ids::NONE;
         let mut left = Queue::EMPTY;
-        for (place, speak) in self.queue.outstanding().iter().enumerate() {
+        for (place, held) in self.queue.outstanding().iter().enumerate() {
             if places & (1 << place) != 0 {
-                ended.add(speak.id);
+                ended.add(held.id);
             } else {
-                left.add(*speak);
+                left.add(*held);
             }
         }
         self.queue = left;
@@ -99,7 +135,7 @@ impl Channel {
         ended
     }
 
-    /// The places of the SPEAKs that a legal list names; ids are numbers here.
+    /// The places of the requests that a legal list names; ids are numbers here.
     fn places_named(&self, value: &[u8]) -> Places {
         let mut places = 0;
         for id in list_of_ids(value).flatten() {

@@ -1,24 +1,26 @@
-//! Telling a script for people, and at its end what became of each prompt.
+//! Telling a script for people, and at its end what became of each prompt and recognition.
 //!
-//! What became of a prompt is derived from the ledger's view alone: the
+//! What became of one is derived from the ledger's view alone: the
 //! inputs, the numbers returned and the bytes written.
 
 use std::io::{BufRead, Write};
 
 use crate::calls::Outcome;
+use crate::channel::Kind;
 use crate::framing::frame;
-use crate::ledger::{request_of, Entry, Violation};
-use crate::message::read;
+use crate::ledger::{is_accepted_method, messages, request_of, Entry, Violation};
+use crate::message::{read, Message};
 use crate::play::{Board, Call};
 use crate::refusal::Refusal;
 use crate::script::{each_command, put_channel, Command, Trouble};
 use crate::start_line::StartLine;
 use crate::writing::{cause_word, Outgoing};
 
-/// What became of a SPEAK.
+/// What became of a SPEAK or a RECOGNIZE.
 enum Became {
     Held,
     Spoken(String),
+    Completed(String),
     Stopped(String),
     NotAccepted(String),
 }
@@ -28,7 +30,7 @@ struct Prompt {
     became: Became,
 }
 
-/// The SPEAKs since one opening, in the order of the calls.
+/// The SPEAKs or RECOGNIZEs since one opening, in the order of the calls.
 struct Chapter {
     title: String,
     prompts: Vec<Prompt>,
@@ -67,7 +69,9 @@ impl Teller {
             Command::Read(input) => tell_read(text, &input),
             Command::Open(name) => self.open(text, &name),
             Command::Message { room, input } => return self.message(text, room, &input),
-            Command::Report { cause, room } => return self.report(text, cause, room),
+            Command::Report { cause, room, score } => {
+                return self.report(text, cause, score, room);
+            }
             Command::Respond { answer, name, room } => {
                 self.written(text, &Outgoing::Answer(*answer), &name, room);
             }
@@ -135,21 +139,28 @@ impl Teller {
         call.entry.map(|_| ())
     }
 
-    fn report(&mut self, text: &mut String, cause: u32, room: usize) -> Result<(), Violation> {
-        let word = cause_word(cause).unwrap_or("no such cause");
-        text.push_str(&format!("** the engine reports {cause:03} {word}\n"));
-        let call = self.board.report(cause, room);
+    fn report(
+        &mut self,
+        text: &mut String,
+        cause: u32,
+        score: u32,
+        room: usize,
+    ) -> Result<(), Violation> {
+        let words = report_words(self.board.channel.kind(), cause, f32::from_bits(score));
+        text.push_str(&format!("** the engine reports {words}\n"));
+        let call = self.board.report(cause, score, room);
         tell_answer(text, &call, room);
         let chapter = self.chapters.last_mut().expect("one since the beginning");
-        if let Ok(Entry::Closed(ids)) = &call.entry {
-            let cause = cause_written(call.written);
-            chapter.close(ids, || Became::Spoken(cause.clone()));
+        if let Ok(Entry::Closed(_)) = &call.entry {
+            messages(call.written)
+                .flatten()
+                .for_each(|event| chapter.note_event(&event));
         }
         call.entry.map(|_| ())
     }
 
     fn prompts(&self) -> String {
-        let mut text = String::from("What became of each prompt\n");
+        let mut text = String::from("What became of each prompt and recognition\n");
         for chapter in &self.chapters {
             // The time before any opening is worth a word only if something came then.
             if chapter.prompts.is_empty() && self.chapters.len() > 1 {
@@ -173,9 +184,21 @@ impl Chapter {
                 let by = format!("{} {id}", String::from_utf8_lossy(method));
                 self.close(ids, || Became::Stopped(by.clone()));
             }
-            _ if method == b"SPEAK" => self.add(id, Became::NotAccepted(why_not(call))),
+            _ if is_accepted_method(method) => self.add(id, Became::NotAccepted(why_not(call))),
             _ => {}
         }
+    }
+
+    /// What an event tells of the one that it closes.
+    fn note_event(&mut self, event: &Message) {
+        let StartLine::Event { name, id, .. } = event.start else {
+            return;
+        };
+        let cause = cause_written(event);
+        self.close(&[id], || match name {
+            b"SPEAK-COMPLETE" => Became::Spoken(cause.clone()),
+            _ => Became::Completed(cause.clone()),
+        });
     }
 
     fn add(&mut self, id: u32, became: Became) {
@@ -200,13 +223,24 @@ impl Became {
         match self {
             Became::Held => "still held".to_string(),
             Became::Spoken(cause) => format!("spoken, {cause}"),
+            Became::Completed(cause) => format!("completed, {cause}"),
             Became::Stopped(by) => format!("stopped by {by}"),
             Became::NotAccepted(why) => format!("not accepted, {why}"),
         }
     }
 }
 
-/// Why a SPEAK was not accepted: the status written or the refusal.
+/// What the engine reports; its score only where it is looked at.
+fn report_words(kind: Kind, cause: u32, score: f32) -> String {
+    let word = cause_word(kind, cause).unwrap_or("no such cause");
+    match kind {
+        Kind::Synthesizer => format!("{cause:03} {word}"),
+        Kind::Recognizer if score.is_nan() => format!("{cause:03} {word}, score no number"),
+        Kind::Recognizer => format!("{cause:03} {word}, score {score:.9}"),
+    }
+}
+
+/// Why a SPEAK or RECOGNIZE was not accepted: the status written or the refusal.
 fn why_not(call: &Call) -> String {
     if call.outcome.number != 0 {
         return format!("refused {}", call.outcome.number);
@@ -218,9 +252,8 @@ fn why_not(call: &Call) -> String {
 }
 
 /// The cause that the event names.
-fn cause_written(written: &[u8]) -> String {
-    let fields = read(written).ok().and_then(|message| message.fields);
-    let named = fields.as_ref().and_then(|fields| {
+fn cause_written(event: &Message) -> String {
+    let named = event.fields.as_ref().and_then(|fields| {
         let mut all = fields.all().iter();
         all.find(|field| field.name.eq_ignore_ascii_case(b"Completion-Cause"))
     });
@@ -230,8 +263,13 @@ fn cause_written(written: &[u8]) -> String {
 fn tell_answer(text: &mut String, call: &Call, room: usize) {
     let Outcome { number, .. } = call.outcome;
     if number == 0 {
-        // It ends with its own empty line.
-        text.push_str(&arrow("<-", call.written));
+        // Each message ends with its own empty line.
+        let mut rest = call.written;
+        for message in messages(call.written) {
+            let length = message.map_or(rest.len(), |message| message.length);
+            text.push_str(&arrow("<-", &rest[..length]));
+            rest = &rest[length..];
+        }
     } else {
         text.push_str(&refused(number));
         if number == Refusal::NoRoom.number() {

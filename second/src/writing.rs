@@ -1,6 +1,8 @@
 //! Bytes written: answers and events.
 
-use crate::channel::MOST_OUTSTANDING;
+use std::iter;
+
+use crate::channel::{Kind, MOST_OUTSTANDING};
 use crate::start_line::RequestState;
 
 /// The ids of an answer's list, in queue order; empty where there is no list.
@@ -36,14 +38,16 @@ pub struct Answer {
     pub list: Ids,
 }
 
-/// A SPEAK-COMPLETE event, always COMPLETE, with a cause of 0 to 7.
+/// A SPEAK-COMPLETE or RECOGNITION-COMPLETE event, always COMPLETE, with a
+/// cause of that kind.
 #[derive(Clone, Copy, Debug, PartialEq, Eq)]
 pub struct Event {
+    pub kind: Kind,
     pub id: u32,
     pub cause: u32,
 }
 
-const CAUSES: [&str; 8] = [
+const SPEECH_CAUSES: [&str; 8] = [
     "normal",
     "barge-in",
     "parse-failure",
@@ -54,9 +58,67 @@ const CAUSES: [&str; 8] = [
     "cancelled",
 ];
 
-/// The cause's word; none above 7.
-pub fn cause_word(cause: u32) -> Option<&'static str> {
-    CAUSES.get(cause as usize).copied()
+/// RFC 6787, section 9.4.11.
+const RECOGNITION_CAUSES: [&str; 16] = [
+    "success",
+    "no-match",
+    "no-input-timeout",
+    "hotword-maxtime",
+    "grammar-load-failure",
+    "grammar-compilation-failure",
+    "recognizer-error",
+    "speech-too-early",
+    "success-maxtime",
+    "uri-failure",
+    "language-unsupported",
+    "cancelled",
+    "semantics-failure",
+    "partial-match",
+    "partial-match-maxtime",
+    "no-match-maxtime",
+];
+
+/// The cause of a recognition that ends with the one before it.
+pub const CANCELLED: u32 = 11;
+
+/// The cause's word; none above 7, on a recognizer above 15.
+pub fn cause_word(kind: Kind, cause: u32) -> Option<&'static str> {
+    let causes = match kind {
+        Kind::Synthesizer => &SPEECH_CAUSES[..],
+        Kind::Recognizer => &RECOGNITION_CAUSES[..],
+    };
+    causes.get(cause as usize).copied()
+}
+
+/// The events of one report, end to end: the first with the cause, all others cancelled.
+#[derive(Clone, Copy, Debug, PartialEq, Eq)]
+pub struct Events {
+    pub kind: Kind,
+    pub cause: u32,
+    pub ids: Ids,
+}
+
+impl Events {
+    fn all(&self) -> impl Iterator<Item = Outgoing> + '_ {
+        let causes = iter::once(self.cause).chain(iter::repeat(CANCELLED));
+        self.ids.all().iter().zip(causes).map(|(&id, cause)| {
+            let kind = self.kind;
+            Outgoing::Event(Event { kind, id, cause })
+        })
+    }
+
+    /// Writes all of them and gives the sum of their sizes. None, and no byte
+    /// written, if the output is shorter: refusal 7 "is about all messages of
+    /// one call together".
+    pub fn write(&self, name: &[u8], output: &mut [u8]) -> Option<usize> {
+        let total = self.all().map(|event| event.size(name)).sum();
+        let output = output.get_mut(..total)?;
+        let mut at = 0;
+        for event in self.all() {
+            at += event.write(name, &mut output[at..])?;
+        }
+        Some(total)
+    }
 }
 
 #[derive(Clone, Copy, Debug, PartialEq, Eq)]
@@ -136,7 +198,7 @@ impl Outgoing {
         sink.put(b"\r\n");
         match self {
             Outgoing::Answer(answer) => put_list(answer.list.all(), sink),
-            Outgoing::Event(event) => put_cause(event.cause, sink),
+            Outgoing::Event(event) => put_cause(event, sink),
         }
         sink.put(b"\r\n");
     }
@@ -153,7 +215,10 @@ fn put_answer_line(answer: &Answer, sink: &mut impl Sink) {
 }
 
 fn put_event_line(event: &Event, sink: &mut impl Sink) {
-    sink.put(b" SPEAK-COMPLETE ");
+    sink.put(match event.kind {
+        Kind::Synthesizer => &b" SPEAK-COMPLETE "[..],
+        Kind::Recognizer => b" RECOGNITION-COMPLETE ",
+    });
     sink.number(u64::from(event.id), 1);
     sink.put(b" ");
     sink.put(RequestState::Complete.word().as_bytes());
@@ -173,11 +238,12 @@ fn put_list(ids: &[u32], sink: &mut impl Sink) {
     sink.put(b"\r\n");
 }
 
-fn put_cause(cause: u32, sink: &mut impl Sink) {
+fn put_cause(event: &Event, sink: &mut impl Sink) {
+    let word = cause_word(event.kind, event.cause).expect("a cause of that kind");
     sink.put(b"Completion-Cause:");
-    sink.number(u64::from(cause), 3);
+    sink.number(u64::from(event.cause), 3);
     sink.put(b" ");
-    sink.put(CAUSES[cause as usize].as_bytes());
+    sink.put(word.as_bytes());
     sink.put(b"\r\n");
 }
 

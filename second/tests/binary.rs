@@ -141,6 +141,14 @@ const UNREADABLE: &[&str] = &[
     "report 0 1000001",
     "report - 0",
     "report 0 0 0",
+    "report 0 0 3f00000",
+    "report 0 0 3f0000000",
+    "report 0 0 3F000000",
+    "report 0 0 0x000000",
+    "report 0 0 -",
+    "report 0 0 +3f00000",
+    "report 0 0 3f000000 0",
+    "report 0 0 ",
     "respond PENDING 200 7 61 -",
     "respond pending 200 7 61 - 305",
     "respond PENDING 1000 7 61 - 305",
@@ -167,6 +175,18 @@ const UNREADABLE: &[&str] = &[
     "channel - idle - 1+ 2-",
     "channel - idle - 9223372036854775808+",
     "channel - idle - - 18446744073709551616",
+    // Each kind has its own form of an entry.
+    "channel - idle - 1:3f000000",
+    "channel 61407370656563687265636f67 recognizing 1 1+",
+    "channel 61407370656563687265636f67 recognizing 1 1",
+    "channel 61407370656563687265636f67 recognizing 1 1:",
+    "channel 61407370656563687265636f67 recognizing 1 :3f000000",
+    "channel 61407370656563687265636f67 recognizing 1 1:3f00000",
+    "channel 61407370656563687265636f67 recognizing 1 1:3F000000",
+    "channel 61407370656563687265636f67 recognizing 1 1:3f000000:",
+    "channel 61407370656563687265636f67 recognizing 1 1:3f000000,",
+    "channel 61407370656563687265636f67 recognizing 1 1:3f000000+",
+    "channel 61407370656563687265636f67 recognizing 1 9223372036854775808:3f000000",
     "number 0",
     "number 64 0",
     "number 0 -",
@@ -178,9 +198,11 @@ const UNREADABLE: &[&str] = &[
 #[test]
 fn unreadable_lines() {
     let many = format!("channel - idle - {}", vec!["1+"; 17].join(","));
+    let nine = ["1:00000000"; 9].join(",");
+    let nine = format!("channel 61407370656563687265636f67 idle - {nine}");
     let huge = format!("frame {}", "00".repeat(1_000_001));
     let listed = format!("respond PENDING 200 7 61 {} 305", vec!["1"; 17].join(","));
-    let longer = [&many[..], &huge, &listed];
+    let longer = [&many[..], &nine, &huge, &listed];
     for &line in UNREADABLE.iter().chain(&longer) {
         let script = format!("# first\nframe -\n\n{line}\nframe -\n");
         for act in ["play", "tell"] {
@@ -324,7 +346,7 @@ fn calls(script: &str) -> usize {
 
 #[test]
 fn what_is_made_is_the_same_each_time_and_plays() {
-    for kind in ["frame", "read", "calls", "all"] {
+    for kind in ["frame", "read", "calls", "recog", "all"] {
         for seed in ["0", "1", "2", "77", "18446744073709551615"] {
             let words = ["gen", seed, "3000", kind];
             let made = second(&words, b"");
@@ -343,6 +365,56 @@ fn what_is_made_is_the_same_each_time_and_plays() {
     let other = second(&["gen", "2", "100"], b"");
     assert_ne!(one.stdout, other.stdout);
     assert!(second(&["gen", "1", "0"], b"").stdout.is_empty());
+}
+
+#[test]
+fn what_became_of_each_recognition() {
+    let channel = "Channel-Identifier:7f3a@speechrecog|";
+    let recognize = |id: u32, level: &str| {
+        let rest = format!(
+            "RECOGNIZE {id}|{channel}Content-Type:text/uri-list|\
+             Confidence-Threshold:{level}|Content-Length:2||Hi"
+        );
+        let length = "MRCP/2.0 135 ".len() + rest.replace('|', "..").len();
+        format!(
+            "message 305 {}\n",
+            hex(&format!("MRCP/2.0 {length} {rest}"))
+        )
+    };
+    let script = format!(
+        "open {}\n{}{}{}{}report 0 1250 3f000001\nreport 8 1250 3f800000\nreport 2 9 7fc00000\n",
+        hex("7f3a@speechrecog"),
+        recognize(1, "0.5"),
+        recognize(2, "1.0"),
+        recognize(3, "0.0"),
+        recognize(4, "2.0"),
+    );
+    let output = second(&["tell"], script.as_bytes());
+    assert_eq!(output.status.code(), Some(0), "{}", text(&output.stderr));
+    let told = text(&output.stdout);
+    let (story, recognitions) = told
+        .split_once("What became of each prompt and recognition\n")
+        .unwrap();
+    let lines = [
+        "** the engine reports 000 success, score 0.500000060\n<- MRCP/2.0 115 RECOGNITION-COMPLETE 1 ",
+        "** the engine reports 008 success-maxtime, score 1.000000000\n<- MRCP/2.0 116 ",
+        "   Completion-Cause:001 no-match\n\n<- MRCP/2.0 117 RECOGNITION-COMPLETE 3 COMPLETE\n",
+        "** the engine reports 002 no-input-timeout, score no number\n\
+         \x20  refused 11: engine score that is no number\n",
+    ];
+    for line in lines {
+        assert!(story.contains(line), "{line}: {story}");
+    }
+    let lines: Vec<&str> = recognitions.lines().map(str::trim).collect();
+    let expected = [
+        "",
+        "channel 7f3a@speechrecog",
+        "1  completed, 000 success",
+        "2  completed, 001 no-match",
+        "3  completed, 011 cancelled",
+        "4  not accepted, 404",
+    ];
+    assert_eq!(lines, expected, "{told}");
 }
 
 #[test]
@@ -369,7 +441,9 @@ fn what_became_of_each_prompt() {
     let output = second(&["tell"], script.as_bytes());
     assert_eq!(output.status.code(), Some(0));
     let told = text(&output.stdout);
-    let (story, prompts) = told.split_once("What became of each prompt\n").unwrap();
+    let (story, prompts) = told
+        .split_once("What became of each prompt and recognition\n")
+        .unwrap();
     assert!(
         story.contains("-> MRCP/2.0 106 SPEAK 1\n   Channel-Identifier:"),
         "{story}"
@@ -379,7 +453,7 @@ fn what_became_of_each_prompt() {
         "{story}"
     );
     assert!(
-        story.contains("refused 9: engine cause above 7\n"),
+        story.contains("refused 9: engine cause above 7, on a recognizer above 15\n"),
         "{story}"
     );
     let lines: Vec<&str> = prompts.lines().map(str::trim).collect();

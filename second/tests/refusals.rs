@@ -10,7 +10,7 @@ const NOT_SOUND: &str = "idle 1 1+";
 #[test]
 fn the_numbers() {
     let numbers: Vec<u32> = Refusal::ALL.iter().map(|r| r.number()).collect();
-    assert_eq!(numbers, [1, 2, 3, 4, 5, 6, 7, 8, 9, 10, 21]);
+    assert_eq!(numbers, [1, 2, 3, 4, 5, 6, 7, 8, 9, 10, 11, 21]);
     for number in numbers {
         assert_eq!(Refusal::of_number(number).unwrap().number(), number);
     }
@@ -121,6 +121,8 @@ fn no_room_for_a_failed_answer() {
 fn opening_by_table() {
     let longest = format!("{}@speechsynth", "a".repeat(32));
     let longer = format!("{}@speechsynth", "a".repeat(33));
+    let longest_recognizer = format!("{}@speechrecog", "a".repeat(32));
+    let longer_recognizer = format!("{}@speechrecog", "a".repeat(33));
     let rows = [
         ("7f3a@speechsynth", 0),
         ("a@speechsynth", 0),
@@ -130,7 +132,14 @@ fn opening_by_table() {
         ("@speechsynth", 10),
         ("", 10),
         ("7f3a", 10),
-        ("7f3a@speechrecog", 10),
+        ("7f3a@speechrecog", 0),
+        (&longest_recognizer, 0),
+        (&longer_recognizer, 10),
+        ("@speechrecog", 10),
+        ("7f3a@speechrecog ", 10),
+        ("7f3a@speechReCog", 10),
+        ("a@speechsynth@speechrecog", 10),
+        ("a@speechrecog@speechsynth", 10),
         ("7f3a@Speechsynth", 10),
         ("7f3a@speechsynth ", 10),
         (" 7f3a@speechsynth", 10),
@@ -162,8 +171,12 @@ fn soundness_by_table() {
         ("2 1 1+", true),
         ("0 1 -", true),
         (&sixteen, true),
-        // The state is one of three.
+        // The state is one of three, and none of a recognizer's.
         ("3 1 1+", false),
+        ("4 1 -", false),
+        ("recognizing 1 1+", false),
+        ("recognized 1 -", false),
+        ("5 1 1+", false),
         ("255 1 1+", false),
         ("7 1 -", false),
         ("256 1 -", false),
@@ -215,7 +228,7 @@ fn soundness_by_table() {
         assert_eq!(outcome.number, if *sound { 9 } else { 21 }, "{words}");
         assert_eq!(channel, given(words), "{words}");
     }
-    for name in ["", "@speechsynth", "7f3a@speechrecog", "7-@speechsynth"] {
+    for name in ["", "@speechsynth", "@speechrecog", "7-@speechsynth"] {
         assert!(
             !given_name(name.as_bytes(), "idle - -").is_sound(),
             "{name}"

@@ -14,6 +14,7 @@ use Rattle.message.specs.declared.Known.the-variants.{ContentLength}
 use Rattle.answer.specs.IdList.{idListText}
 use Rattle.answer.specs.Answers.{channelIdentifier, activeRequestIdList, completionCause}
 use Rattle.answer.specs.Writable.{FieldFits}
+use Rattle.answer.specs.declared.Kind.{Kind}
 use Rattle.answer.proofs.Values.{ValueFits, visible, list-visible}
 
 -- a field with a fixed name
@@ -39,9 +40,10 @@ module _ (name : List ℕ) where
   list-once [] = refl
   list-once (i ∷ is) = refl
 
-  pub cause-once : (cause : ℕ) → onceEach (namesOf (channelIdentifier name ∷ completionCause cause ∷ [])) ≡ true
+  pub cause-once : (kind : Kind) (cause : ℕ)
+      → onceEach (namesOf (channelIdentifier name ∷ completionCause kind cause ∷ [])) ≡ true
   unfolding knownOf
-  cause-once cause = refl
+  cause-once kind cause = refl
 
   -- there is no Content-Length, and no body
   pub list-bare : (ids : List ℕ) → valueOf ContentLength (channelIdentifier name ∷ activeRequestIdList ids) ≡ none
@@ -49,6 +51,7 @@ module _ (name : List ℕ) where
   list-bare [] = refl
   list-bare (i ∷ is) = refl
 
-  pub cause-bare : (cause : ℕ) → valueOf ContentLength (channelIdentifier name ∷ completionCause cause ∷ []) ≡ none
+  pub cause-bare : (kind : Kind) (cause : ℕ)
+      → valueOf ContentLength (channelIdentifier name ∷ completionCause kind cause ∷ []) ≡ none
   unfolding knownOf valueOf
-  cause-bare cause = refl
+  cause-bare kind cause = refl

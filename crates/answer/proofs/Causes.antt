@@ -1,10 +1,11 @@
 -- The names of the causes, one behind the other, and where each stands. Assumes nothing.
 use Prim.Native.Nat.{ℕ, zero, suc, _+_, _-_, _≤_, _<_}
-use native.Mathlib.Nat.{le-of-suc-le-suc, not-suc-le-zero}
+use native.Mathlib.Nat.{le-trans, le-of-suc-le-suc, not-suc-le-zero}
 use native.Mathlib.Numerals.{add-one}
 use native.Mathlib.Omega.{arith}
 use mathlib.Core.Path.{_≡_, refl, sym, ap, ap₂, _∙_}
 use mathlib.Core.List.{List, [], _∷_}
+use lib.Dec.{lit≤}
 use lib.ListN.{length, getD, take, length-append}
 use lib.Seq.{take-append-seam, drop-append-add}
 use Rattle.octets.specs.Octets.{from}
@@ -14,6 +15,7 @@ use Rattle.message.specs.Message.{part}
 use Rattle.message.specs.declared.Span.{Span}
 use Rattle.answer.specs.Answers.{causeNames, completionCause}
 use Rattle.answer.specs.Causes.{joined, placed}
+use Rattle.answer.specs.declared.Kind.{Kind}
 
 -- ---- texts one behind the other
 
@@ -77,15 +79,24 @@ module _ (ts : List (List ℕ)) (n : ℕ) (h : n < length ts) where
 
 -- ---- the name of a cause, at the place that the code has
 
-module _ (cause : ℕ) {p : Span} (e : p ≡ placed causeNames cause) where
-  pub name-within : p .start + p .len ≤ 92
-  name-within = rw e (placed-within causeNames cause)
+-- no kind's names have more bytes together
+names-most : (kind : Kind) → length (joined (causeNames kind)) ≤ 247
+names-most Kind.Synthesizer = lit≤ tt
+names-most Kind.Recognizer = lit≤ tt
 
-  pub name-length : p .len ≡ length (getD causeNames cause [])
-  name-length = rw e (placed-length causeNames cause)
+module _ (kind : Kind) (cause : ℕ) {p : Span} (e : p ≡ placed (causeNames kind) cause) where
+  pub name-within : p .start + p .len ≤ length (joined (causeNames kind))
+  name-within = rw e (placed-within (causeNames kind) cause)
 
-  pub name-text : part (joined causeNames) p ≡ getD causeNames cause []
-  name-text = rw e (placed-text causeNames cause)
+  pub name-few : p .start + p .len ≤ 247
+  name-few = le-trans name-within (names-most kind)
 
-pub cause-length : (cause : ℕ) → length (completionCause cause .value) ≡ 4 + length (getD causeNames cause [])
-cause-length cause = simp length-append (omega (arith, three-length cause))
+  pub name-length : p .len ≡ length (getD (causeNames kind) cause [])
+  name-length = rw e (placed-length (causeNames kind) cause)
+
+  pub name-text : part (joined (causeNames kind)) p ≡ getD (causeNames kind) cause []
+  name-text = rw e (placed-text (causeNames kind) cause)
+
+pub cause-length : (kind : Kind) (cause : ℕ)
+    → length (completionCause kind cause .value) ≡ 4 + length (getD (causeNames kind) cause [])
+cause-length kind cause = simp length-append (omega (arith, three-length cause))

@@ -17,7 +17,8 @@ use Rattle.message.specs.declared.RequestState.{RequestState}
 use Rattle.message.specs.declared.RequestState.the-variants.{Pending, InProgress, Complete}
 use Rattle.answer.specs.Written.{startText, fieldText, fieldsText, afterLength, written}
 use Rattle.answer.specs.IdList.{behindCommas, idListText}
-use Rattle.answer.specs.Answers.{channelIdentifier, activeRequestIdList, completionCause, response, speakComplete}
+use Rattle.answer.specs.Answers.{channelIdentifier, activeRequestIdList, eventName, completionCause, response, complete}
+use Rattle.answer.specs.declared.Kind.{Kind}
 use Rattle.answer.proofs.Places.{field-size}
 use Rattle.answer.proofs.Frames.{written-length}
 
@@ -90,11 +91,24 @@ response-size name id status state ids n i l =
       id-most id i,
     )
 
-pub complete-size : (name : List ℕ) (id cause : ℕ) → length name ≤ 44 → id < 4294967296 → length (completionCause cause .value) ≤ 24
-    → length (written (speakComplete name id cause)) ≤ 159
-unfolding speakComplete fieldsText
-complete-size name id cause n i c =
-    let start = event-start (bytes "SPEAK-COMPLETE") id Complete in
-    let first = fields-size (channelIdentifier name) (completionCause cause ∷ []) in
-    let second = fields-size (completionCause cause) [] in
-    omega (arith, message-size (speakComplete name id cause) (omega (arith, start, first, second, id-most id i)), start, first, second, id-most id i)
+pub event-most : (kind : Kind) → length (eventName kind) ≤ 20
+event-most Kind.Synthesizer = lit≤ tt
+event-most Kind.Recognizer = lit≤ tt
+
+pub complete-size : (kind : Kind) (name : List ℕ) (id cause : ℕ) → length name ≤ 44 → id < 4294967296
+    → length (completionCause kind cause .value) ≤ 31
+    → length (written (complete kind name id cause))
+    ≤ 121 + length (eventName kind) + length (completionCause kind cause .value)
+unfolding complete fieldsText
+complete-size kind name id cause n i c =
+    let start = event-start (eventName kind) id Complete in
+    let first = fields-size (channelIdentifier name) (completionCause kind cause ∷ []) in
+    let second = fields-size (completionCause kind cause) [] in
+    omega (
+      arith,
+      message-size (complete kind name id cause) (omega (arith, start, first, second, id-most id i, event-most kind)),
+      start,
+      first,
+      second,
+      id-most id i,
+    )

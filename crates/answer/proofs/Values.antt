@@ -1,10 +1,10 @@
 -- Values of fields that need no trimming: texts of visible bytes, lists of ids, and completion causes.
-use Prim.Native.Nat.{ℕ, _≤_}
+use Prim.Native.Nat.{ℕ, _≤_, _<_}
 use native.Mathlib.Omega.{arith}
 use mathlib.Core.Path.{_≡_, refl, ap, _∙_}
 use mathlib.Core.Bool.{Bool, true, false, _&&_}
 use mathlib.Core.List.{List, [], _∷_}
-use lib.Dec.{leb, eqb}
+use lib.Dec.{leb, eqb, lit≤}
 use lib.ListN.{length}
 use borrow.Author.Tests.{leb-true, le-leb, eqb-true, ne-eqb}
 use Rattle.lists.specs.Lists.{all, run, same}
@@ -16,7 +16,8 @@ use Rattle.writers.specs.Decimal.{digits, threeDigits}
 use Rattle.writers.proofs.Digits.{digits-all}
 use Rattle.message.specs.Fields.{kept, trimEnd}
 use Rattle.answer.specs.IdList.{behindCommas, idListText}
-use Rattle.answer.specs.Answers.{completionCause}
+use Rattle.answer.specs.Answers.{causeNames, completionCause}
+use Rattle.answer.specs.declared.Kind.{Kind}
 
 pub record ValueFits (v : List ℕ) : Type 0 where
   pub values : all isValue v ≡ true
@@ -76,24 +77,43 @@ pub list-visible : (i : ℕ) (is : List ℕ) → all isVisible (idListText (i �
 unfolding idListText
 list-visible i is = all-append isVisible (digits i) (behindCommas is) (digits-visible i) (commas-visible is)
 
--- ---- causes 0 to 7
+-- ---- causes
 
--- a value that fits, of at most 24 bytes, as one test
-fitting : List ℕ → Bool
-fitting v = all isValue v && (eqb (run isBlank v) 0 && (same (trimEnd v) v && leb (length v) 24))
+-- the longest value: 24 bytes on a synthesizer, 31 on a recognizer
+abbrev pub causeMost : Kind → ℕ
+causeMost Kind.Synthesizer = 24
+causeMost Kind.Recognizer = 31
 
-fitting-so : (v : List ℕ) → fitting v ≡ true → ValueFits v × (length v ≤ 24)
+pub cause-most : (kind : Kind) → causeMost kind ≤ 31
+cause-most Kind.Synthesizer = lit≤ tt
+cause-most Kind.Recognizer = lit≤ tt
+
+pub record CauseFits (kind : Kind) (cause : ℕ) : Type 0 where
+  pub value : ValueFits (completionCause kind cause .value)
+  pub most : length (completionCause kind cause .value) ≤ causeMost kind
+
+-- as one test
+fitting : Kind → ℕ → Bool
+fitting kind cause =
+    let v = completionCause kind cause .value in
+    all isValue v && (eqb (run isBlank v) 0 && (same (trimEnd v) v && leb (length v) (causeMost kind)))
+
+fitting-so : (kind : Kind) (cause : ℕ) → fitting kind cause ≡ true → CauseFits kind cause
 unfolding fitting
-fitting-so v e =
+fitting-so kind cause e =
+    let v = completionCause kind cause .value in
     let values = both (all isValue v) _ e in
     let front = both (eqb (run isBlank v) 0) _ (values .1) in
-    let end = both (same (trimEnd v) v) (leb (length v) 24) (front .1) in (
-      record { values = values .0; front = eqb-true (run isBlank v) 0 (front .0); end = same-so _ v (end .0) },
-      leb-true (length v) 24 (end .1),
-    )
+    let end = both (same (trimEnd v) v) (leb (length v) (causeMost kind)) (front .1) in
+    record {
+      value = record { values = values .0; front = eqb-true (run isBlank v) 0 (front .0); end = same-so _ v (end .0) };
+      most = leb-true (length v) (causeMost kind) (end .1);
+    }
 
-pub cause-fits : (cause : ℕ) → cause ≤ 7
-    → ValueFits (completionCause cause .value) × (length (completionCause cause .value) ≤ 24)
+-- every cause of the kind
+pub cause-fits : (kind : Kind) (cause : ℕ) → cause < length (causeNames kind) → CauseFits kind cause
 unfolding threeDigits fitting
-cause-fits cause h =
-    fitting-so _ (agree (λ n. fitting (completionCause n .value)) (λ n. true) false 8 refl cause (omega arith))
+cause-fits Kind.Synthesizer cause h =
+    fitting-so Kind.Synthesizer cause (agree (fitting Kind.Synthesizer) (λ n. true) false 8 refl cause h)
+cause-fits Kind.Recognizer cause h =
+    fitting-so Kind.Recognizer cause (agree (fitting Kind.Recognizer) (λ n. true) false 16 refl cause h)

@@ -1,6 +1,6 @@
--- Responses and events of a channel: document 01, "Bytes written" and "States and queue".
+-- Responses and events of a channel: document 01, "Bytes written" and "States and queue", and document 02, K1.
 use Prim.Native.Nat.{ℕ}
-use mathlib.Core.List.{List, [], _∷_, _++_}
+use mathlib.Core.List.{List, [], _∷_, _++_, map}
 use lib.ListN.{getD}
 use Rattle.octets.specs.Octets.{bytes}
 use Rattle.writers.specs.Decimal.{threeDigits}
@@ -9,6 +9,7 @@ use Rattle.message.specs.Message as M
 use Rattle.message.specs.declared.RequestState.{RequestState}
 use Rattle.message.specs.declared.RequestState.the-variants.{Complete}
 use Rattle.answer.specs.IdList.{idListText}
+use Rattle.answer.specs.declared.Kind.{Kind}
 use Rattle.answer.specs.declared.Answer.{Answer}
 
 abbrev pub channelIdentifier : List ℕ → Field (List ℕ)
@@ -28,16 +29,31 @@ response name id status state ids =
 abbrev pub responseOf : List ℕ → Answer → List ℕ → Message
 responseOf name a ids = response name (a .id) (a .status .code) (a .state) ids
 
--- the names of the causes 0 to 7
-abbrev pub causeNames : List (List ℕ)
-causeNames =
+-- the names of the causes, 0 to 7 of a synthesizer and 0 to 15 of a recognizer
+abbrev pub causeNames : Kind → List (List ℕ)
+causeNames Kind.Synthesizer =
     bytes "normal" ∷ bytes "barge-in" ∷ bytes "parse-failure" ∷ bytes "uri-failure" ∷ bytes "error" ∷ bytes "language-unsupported"
     ∷ bytes "lexicon-load-failure" ∷ bytes "cancelled" ∷ []
+causeNames Kind.Recognizer =
+    bytes "success" ∷ bytes "no-match" ∷ bytes "no-input-timeout" ∷ bytes "hotword-maxtime" ∷ bytes "grammar-load-failure"
+    ∷ bytes "grammar-compilation-failure" ∷ bytes "recognizer-error" ∷ bytes "speech-too-early" ∷ bytes "success-maxtime"
+    ∷ bytes "uri-failure" ∷ bytes "language-unsupported" ∷ bytes "cancelled" ∷ bytes "semantics-failure" ∷ bytes "partial-match"
+    ∷ bytes "partial-match-maxtime" ∷ bytes "no-match-maxtime" ∷ []
 
-abbrev pub completionCause : ℕ → Field (List ℕ)
-completionCause cause = record { name = bytes "Completion-Cause"; value = threeDigits cause ++ bytes " " ++ getD causeNames cause [] }
+-- the event that ends a SPEAK, and the one that ends a RECOGNIZE
+abbrev pub eventName : Kind → List ℕ
+eventName Kind.Synthesizer = bytes "SPEAK-COMPLETE"
+eventName Kind.Recognizer = bytes "RECOGNITION-COMPLETE"
 
--- the event that ends request id
-unfoldable pub speakComplete : List ℕ → ℕ → ℕ → Message
-speakComplete name id cause =
-    record { start = M.event (bytes "SPEAK-COMPLETE") id Complete; fields = channelIdentifier name ∷ completionCause cause ∷ []; body = [] }
+abbrev pub completionCause : Kind → ℕ → Field (List ℕ)
+completionCause kind cause = record { name = bytes "Completion-Cause"; value = threeDigits cause ++ bytes " " ++ getD (causeNames kind) cause [] }
+
+-- the event that ends request id on a channel of that kind
+unfoldable pub complete : Kind → List ℕ → ℕ → ℕ → Message
+complete kind name id cause =
+    record { start = M.event (eventName kind) id Complete; fields = channelIdentifier name ∷ completionCause kind cause ∷ []; body = [] }
+
+-- the events that end several: the first with the cause, each other one with 011, in their order
+abbrev pub completes : Kind → List ℕ → List ℕ → ℕ → List Message
+completes kind name [] cause = []
+completes kind name (id ∷ ids) cause = complete kind name id cause ∷ map (λ i. complete kind name i 11) ids

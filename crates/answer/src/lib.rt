@@ -2,7 +2,9 @@
 ghost use mathlib.Core.Path.{_≡_};
 ghost use mathlib.Core.Bool.{cond};
 ghost use Rattle.message.specs.declared.RequestState.{RequestState};
+ghost use lib.ListN.{length};
 ghost use Rattle.answer.specs.Answers.{causeNames};
+ghost use Rattle.answer.specs.declared.Kind.{Kind};
 ghost use Rattle.answer.specs.Causes.{joined, placed};
 
 // A status code.
@@ -17,18 +19,56 @@ pub struct Answer {
     pub state: message::RequestState,
 }
 
-// How many causes SPEAK-COMPLETE has: 000 to 007.
-pub const CAUSES: u32 = 8;
+// The kinds of channel.
+pub enum Kind {
+    Synthesizer,
+    Recognizer,
+}
 
-// How many bytes their names have together.
-pub const CAUSE_BYTES: usize = 92;
+// How many causes SPEAK-COMPLETE has, 000 to 007, and RECOGNITION-COMPLETE, 000 to 015.
+pub const SYNTHESIZER_CAUSES: u32 = 8;
 
-// Their names, one behind the other.
-const CAUSE_NAMES: [u8; CAUSE_BYTES] =
+pub const RECOGNIZER_CAUSES: u32 = 16;
+
+// The recognizer's cause 011: its request ended with the one before it.
+pub const CANCELLED: u32 = 11;
+
+// How many bytes the names of a kind's causes have together.
+pub const SYNTHESIZER_BYTES: usize = 92;
+
+pub const RECOGNIZER_BYTES: usize = 247;
+
+// The names of a kind's causes, one behind the other.
+const SYNTHESIZER_NAMES: [u8; SYNTHESIZER_BYTES] =
     *b"normalbarge-inparse-failureuri-failureerrorlanguage-unsupportedlexicon-load-failurecancelled";
 
+const RECOGNIZER_NAMES: [u8; RECOGNIZER_BYTES] =
+    *b"successno-matchno-input-timeouthotword-maxtimegrammar-load-failuregrammar-compilation-failure\
+    recognizer-errorspeech-too-earlysuccess-maxtimeuri-failurelanguage-unsupportedcancelledsemantics-failure\
+    partial-matchpartial-match-maxtimeno-match-maxtime";
+
 // Where each of them begins, and where the last one ends.
-const CAUSE_STARTS: [u8; 9] = [0, 6, 14, 27, 38, 43, 63, 83, 92];
+const SYNTHESIZER_STARTS: [u8; 9] = [0, 6, 14, 27, 38, 43, 63, 83, 92];
+
+const RECOGNIZER_STARTS: [u8; 17] = [
+    0,
+    7,
+    15,
+    31,
+    46,
+    66,
+    93,
+    109,
+    125,
+    140,
+    151,
+    171,
+    180,
+    197,
+    210,
+    231,
+    247,
+];
 
 impl Status {
     pub const SUCCESS: u32 = 200;
@@ -184,19 +224,30 @@ impl Status {
     }
 }
 
-// The names of the causes, one behind the other.
-pub fn cause_names() -> [u8; CAUSE_BYTES]
-    ensures { λ r. ⌜ r ≡ joined causeNames ⌝ }
+// How many causes a kind has.
+pub fn cause_count(kind: Kind) -> u32
+    ensures { λ r. ⌜ r ≡ length (causeNames kind) ⌝ }
 {
-    CAUSE_NAMES
+    match kind {
+        Kind::Synthesizer => SYNTHESIZER_CAUSES,
+        Kind::Recognizer => RECOGNIZER_CAUSES,
+    }
 }
 
-// Where among them the name of a cause stands: behind them all, and with no byte, where there is no such cause.
-pub fn cause_place(cause: u32) -> message::Span
-    ensures { λ r. ⌜ r ≡ placed causeNames cause ⌝ }
+// The names of a synthesizer's causes, one behind the other.
+pub fn synthesizer_causes() -> [u8; SYNTHESIZER_BYTES]
+    ensures { λ r. ⌜ r ≡ joined (causeNames Kind.Synthesizer) ⌝ }
 {
-    if cause < CAUSES {
-        let starts = CAUSE_STARTS;
+    SYNTHESIZER_NAMES
+}
+
+// Where among them the name of a synthesizer's cause stands: behind them all, and with no byte, where there is no such
+// cause.
+pub fn synthesizer_place(cause: u32) -> message::Span
+    ensures { λ r. ⌜ r ≡ placed (causeNames Kind.Synthesizer) cause ⌝ }
+{
+    if cause < SYNTHESIZER_CAUSES {
+        let starts = SYNTHESIZER_STARTS;
         let n = cause as usize;
         let start = starts[n] as usize;
         let end = starts[n + 1] as usize;
@@ -206,7 +257,36 @@ pub fn cause_place(cause: u32) -> message::Span
         }
     } else {
         message::Span {
-            start: CAUSE_BYTES,
+            start: SYNTHESIZER_BYTES,
+            len: 0,
+        }
+    }
+}
+
+// The names of a recognizer's causes, one behind the other.
+pub fn recognizer_causes() -> [u8; RECOGNIZER_BYTES]
+    ensures { λ r. ⌜ r ≡ joined (causeNames Kind.Recognizer) ⌝ }
+{
+    RECOGNIZER_NAMES
+}
+
+// Where among them the name of a recognizer's cause stands: behind them all, and with no byte, where there is no such
+// cause.
+pub fn recognizer_place(cause: u32) -> message::Span
+    ensures { λ r. ⌜ r ≡ placed (causeNames Kind.Recognizer) cause ⌝ }
+{
+    if cause < RECOGNIZER_CAUSES {
+        let starts = RECOGNIZER_STARTS;
+        let n = cause as usize;
+        let start = starts[n] as usize;
+        let end = starts[n + 1] as usize;
+        message::Span {
+            start,
+            len: end - start,
+        }
+    } else {
+        message::Span {
+            start: RECOGNIZER_BYTES,
             len: 0,
         }
     }

@@ -3,6 +3,7 @@ use Prim.Native.Nat.{ℕ, _≤_}
 use mathlib.Core.Path.{_≡_, refl, sym, ap, subst, _∙_}
 use mathlib.Core.Bool.{Bool, true, false}
 use mathlib.Core.List.{List, _++_}
+use native.Mathlib.Nat.{le-trans}
 use native.Mathlib.Omega.{arith}
 use lib.Dec.{ltb}
 use lib.ListN.{length, drop}
@@ -10,10 +11,10 @@ use Rattle.answer.specs.Written.{writtenAll}
 use Rattle.output.specs.Delivery.{counted, delivered}
 use Rattle.output.specs.declared.Written.{Written}
 use Rattle.ledger.specs.Ledger.{Turn}
-use Rattle.synth.specs.Channel.{View, sound}
+use Rattle.synth.specs.Channel.{View, kind, sound}
 use Rattle.synth.specs.Calls.{Call, Reply, refuse, deliver, call}
 use Rattle.synth.specs.States as S
-use Rattle.synth.proofs.Channels.{sound-facts}
+use Rattle.synth.proofs.Channels.{sound-facts, most-16}
 use Rattle.synth.specs.declared.LastId.{LastId}
 use Rattle.channel.specs.Channel.{view}
 use Rattle.channel.specs.declared.Channel.{Channel}
@@ -27,7 +28,7 @@ module _ (v : View) (s : sound v ≡ true) where
   name-short = name-fits (v .name) (sound-facts v s .named)
 
   pub queue-short : length (v .queue) ≤ 16
-  queue-short = sound-facts v s .few
+  queue-short = le-trans (sound-facts v s .few) (most-16 (kind v))
 
 module _ {last : LastId} {c : Channel} where
   pub turned : {t u : Turn View Reply} {out : List ℕ} {r : Handled} {after : List ℕ} → t ≡ u → Leaves last c t out r after → Leaves last c u out r after

@@ -1,10 +1,13 @@
-// A channel by value, its soundness and its opening: document 01, "Refusal numbers".
+// A channel by value, its soundness and its opening: document 01, "Refusal numbers", and document 02, K1.
 ghost use mathlib.Core.Path.{_≡_};
 ghost use Prim.Native.Nat.{_≤_};
 ghost use lib.Dec.{leb};
-ghost use Rattle.synth.specs.Channel.{sound, withQueue, firstAbove};
+ghost use Rattle.synth.specs.Kinds.{kindOf};
+ghost use Rattle.synth.specs.Channel.{sound, withQueue, is, idleUnseen, firstAbove};
+ghost use Rattle.synth.specs.declared.State.the-variants.{Idle};
 ghost use Rattle.synth.specs.Calls.{openChannel};
 ghost use Rattle.synth.specs.declared.LastId.{LastId};
+ghost use Rattle.channelnames.specs.Names.{nameOf};
 ghost use Rattle.queue.specs.Queue.{listOf};
 ghost use Rattle.channel.specs.Channel.{view, opened, kept};
 
@@ -39,6 +42,36 @@ pub fn is_above(last: synth::LastId, id: u32) -> bool
     first_above(last) <= id as u64
 }
 
+// The kind that the channel's name tells.
+pub fn kind(c: Channel) -> answer::Kind
+    ensures { λ r. ⌜ r ≡ kindOf (nameOf (c .name)) ⌝ }
+{
+    let name = c.name;
+    channelnames::kind(name)
+}
+
+fn is_idle(s: synth::State) -> bool
+    ensures { λ r. ⌜ r ≡ is s Idle ⌝ }
+{
+    match s {
+        synth::State::Idle => true,
+        synth::State::Speaking => false,
+        synth::State::Paused => false,
+        synth::State::Recognizing => false,
+        synth::State::Recognized => false,
+    }
+}
+
+// Whether the channel is idle, where no id was seen.
+fn idle_unseen(last: synth::LastId, state: synth::State) -> bool
+    ensures { λ r. ⌜ r ≡ idleUnseen last state ⌝ }
+{
+    match last {
+        synth::LastId::NoneSeen => is_idle(state),
+        synth::LastId::Seen(_) => true,
+    }
+}
+
 // Any channel at all may be handed in, its size and its count past the arrays too.
 pub fn is_sound(last: synth::LastId, c: Channel) -> bool
     ensures { λ r. ⌜ r ≡ sound (view last c) ⌝ }
@@ -47,12 +80,19 @@ pub fn is_sound(last: synth::LastId, c: Channel) -> bool
     if !channelnames::is_well_named(name) {
         return false;
     }
+    let kind = channelnames::kind_by(name);
     let state = c.state;
-    let queue = c.queue;
-    if queue::is_idle(state) != queue::is_empty(queue) {
+    if !queue::is_state_of(kind, state) {
         return false;
     }
-    queue::is_rising(queue, first_above(last))
+    let queue = c.queue;
+    if queue::is_busy(state) == queue::is_empty(queue) {
+        return false;
+    }
+    if !idle_unseen(last, state) {
+        return false;
+    }
+    queue::is_rising(kind, queue, first_above(last))
 }
 
 // A channel anew, and one with another state and queue. Only `loading` builds one otherwise, from C's numbers.

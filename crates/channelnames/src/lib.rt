@@ -1,4 +1,4 @@
-// A channel's name: document 01, "Numbers".
+// A channel's name, and the kind that it tells: document 01, "Numbers", and document 02, K1.
 ghost use mathlib.Core.Path.{_≡_};
 ghost use mathlib.Core.Bool.{_||_, _&&_};
 ghost use mathlib.Core.List.{[], _++_};
@@ -7,8 +7,9 @@ ghost use lib.Dec.{leb};
 ghost use lib.ListN.{length, replicate};
 ghost use Rattle.lists.specs.Lists.{run, same};
 ghost use Rattle.octets.specs.Octets.{isLetter, isDigit};
+ghost use Rattle.synth.specs.Kinds.{kindOf};
 ghost use Rattle.synth.specs.Channel.{wellNamed};
-ghost use Rattle.channelnames.specs.Names.{nameOf, keptName};
+ghost use Rattle.channelnames.specs.Names.{nameOf, kindBy, keptName};
 
 // How many bytes the longest name has.
 pub const LONGEST: usize = 44;
@@ -33,7 +34,7 @@ fn word(name: &[u8]) -> usize
     i
 }
 
-// 1 to 32 letters or digits, then `@speechsynth`.
+// 1 to 32 letters or digits, then `@speechsynth` or `@speechrecog`.
 pub fn well_named(name: &[u8]) -> bool
     ensures { λ r. ⌜ r ≡ wellNamed (now (name .entry)) ⌝ }
 {
@@ -44,7 +45,54 @@ pub fn well_named(name: &[u8]) -> bool
     if 32 < k {
         return false;
     }
-    octets::equal(&name[k..], b"@speechsynth")
+    if octets::equal(&name[k..], b"@speechsynth") {
+        return true;
+    }
+    octets::equal(&name[k..], b"@speechrecog")
+}
+
+// How many bytes the end of a name has that tells the kind.
+const RESOURCE: usize = 12;
+
+// The kind that the name tells. A synthesizer's is told by its last byte.
+pub fn kind(n: Name) -> answer::Kind
+    ensures { λ r. ⌜ r ≡ kindOf (nameOf n) ⌝ }
+{
+    let size = n.size;
+    if size < RESOURCE {
+        return answer::Kind::Synthesizer;
+    }
+    if LONGEST < size {
+        return answer::Kind::Synthesizer;
+    }
+    let bytes = n.bytes;
+    if bytes[size - 1] != b'g' {
+        return answer::Kind::Synthesizer;
+    }
+    let start = size - RESOURCE;
+    if octets::equal(&bytes[start..size], b"@speechrecog") {
+        answer::Kind::Recognizer
+    } else {
+        answer::Kind::Synthesizer
+    }
+}
+
+// The kind of a well-formed name, which its last byte tells.
+pub fn kind_by(n: Name) -> answer::Kind
+    ensures { λ r. ⌜ r ≡ kindBy (nameOf n) ⌝ }
+{
+    let size = n.size;
+    if LONGEST < size {
+        return answer::Kind::Synthesizer;
+    }
+    if size == 0 {
+        return answer::Kind::Synthesizer;
+    }
+    let bytes = n.bytes;
+    if bytes[size - 1] == b'g' {
+        return answer::Kind::Recognizer;
+    }
+    answer::Kind::Synthesizer
 }
 
 // Any name at all may be handed in, its size past the array too.

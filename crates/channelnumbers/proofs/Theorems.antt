@@ -1,1 +1,2 @@
 pub mod LoadSaved
+pub mod ThresholdsFit

@@ -6,13 +6,14 @@ use mathlib.Core.Option.{Option, none, some}
 use mathlib.Core.List.{List, [], _∷_}
 use native.Mathlib.Omega.{arith}
 use lib.Dec.{eqb, ltb}
+use lib.Ieee.{Float}
 use lib.ListN.{length, set}
 use Rattle.lists.specs.Lists.{All}
 use Rattle.lists.proofs.Tests.{choose}
 use Rattle.messagenumbers.specs.Layout.{handed}
 use Rattle.ledger.specs.Ledger.{Turn}
 use Rattle.synth.specs.Channel.{View, fresh, wellNamed, sound}
-use Rattle.synth.specs.Calls.{Lent, input, cause, Reply, call}
+use Rattle.synth.specs.Calls.{Lent, input, report, Reply, call}
 use Rattle.channelnumbers.specs.Numbers.{numbersOf, viewOf}
 use Rattle.klarvesimo.specs.Face.{CallFace, keeping, turnFace, callOn, callFace}
 use Rattle.demands.specs.Demands.{Line, table, firstDue, outcome, exact, stated}
@@ -75,7 +76,7 @@ no-channel : (ws : List ℕ) (lent : Lent) (out : List ℕ)
     → callOn none ws lent out ≡ lineFace (firstDue (table (fresh []) lent (length out))) (fresh []) ws lent out
 unfolding table
 no-channel ws (input s) out = rw (nameless, table)
-no-channel ws (cause n) out = rw (nameless, table)
+no-channel ws (report cause score) out = rw (nameless, table)
 
 call-on : (o : Option View) (ws : List ℕ) (lent : Lent) (out : List ℕ)
     → callOn o ws lent out ≡ lineFace (firstDue (table (seenAs o) lent (length out))) (seenAs o) ws lent out
@@ -98,14 +99,15 @@ first-due : (ls : List Line) → All (λ (l : Line). l .consumed ≡ 0) ls → C
 first-due [] h = tt
 first-due (l ∷ ls) h = choose ConsumesNone (l .due) (λ _. h .0) (λ _. first-due ls (h .1))
 
-line-consumes : (o : Option Line) (v : View) (ws : List ℕ) (n : ℕ) (out : List ℕ) → ConsumesNone o
-    → lineFace o v ws (cause n) out .consumed ≡ 0
-line-consumes none v ws n out h = refl
-line-consumes (some l) v ws n out h = h
+line-consumes : (o : Option Line) (v : View) (ws : List ℕ) (cause : ℕ) (score : Float) (out : List ℕ) → ConsumesNone o
+    → lineFace o v ws (report cause score) out .consumed ≡ 0
+line-consumes none v ws cause score out h = refl
+line-consumes (some l) v ws cause score out h = h
 
-pub report-consumes-none : (ws : List ℕ) (n : ℕ) (out : List ℕ) → callFace ws (cause n) out .consumed ≡ 0
-report-consumes-none ws n out =
+pub report-consumes-none : (ws : List ℕ) (cause : ℕ) (score : Float) (out : List ℕ) → callFace ws (report cause score) out .consumed ≡ 0
+report-consumes-none ws cause score out =
     let v = channelIn ws in
-    let lines = table v (cause n) (length out) in
-    ap (λ (f : CallFace). f .consumed) (call-by-table ws (cause n) out)
-    ∙ line-consumes (firstDue lines) v ws n out (first-due lines (unfold table in (refl, (refl, (refl, (refl, tt))))))
+    let lines = table v (report cause score) (length out) in
+    ap (λ (f : CallFace). f .consumed) (call-by-table ws (report cause score) out)
+    ∙ line-consumes (firstDue lines) v ws cause score out
+    (first-due lines (unfold table in (refl, (refl, (refl, (refl, (refl, tt)))))))

@@ -1,12 +1,13 @@
 -- What the definition of a call gives is what the first line of the table that is due says, and where none is, the outcome. Assumes nothing.
-use Prim.Native.Nat.{ℕ, _≤_}
+use Prim.Native.Nat.{ℕ, _<_}
 use mathlib.Core.Path.{_≡_, refl, sym, ap, subst, _∙_}
 use mathlib.Core.Bool.{Bool, true, false, false≢true}
 use mathlib.Core.Option.{Option, none, some}
 use mathlib.Core.List.{List, _∷_}
 use lib.Dec.{eqb, ltb}
+use lib.Ieee.{Float}
 use lib.ListN.{length, take}
-use borrow.Author.Tests.{le-ltb, ltb-true, ltb-false}
+use borrow.Author.Tests.{leb-true, leb-false}
 use Rattle.framing.specs.Framing.{framing}
 use Rattle.framing.specs.declared.Framing.{Framing}
 use Rattle.framing.specs.declared.Framing.the-variants.{More, NoMessage, TooLong, TooShort, Frame}
@@ -15,16 +16,15 @@ use Rattle.message.specs.StartLines.{Started, started, startLine}
 use Rattle.message.specs.Reading.{readFrom, readFramed, reading, readBytes}
 use Rattle.message.specs.declared.Span.{Span}
 use Rattle.answer.specs.Written.{writtenAll}
+use Rattle.answer.specs.Answers.{causeNames}
 use Rattle.ledger.specs.Ledger.{Turn}
-use Rattle.synth.specs.Channel.{View, sound}
+use Rattle.synth.specs.Channel.{View, kind, sound}
 use Rattle.synth.specs.Request.{requestOf}
 use Rattle.synth.specs.States.{Outcome, judge, completed}
-use Rattle.synth.specs.Calls.{Lent, input, cause, Reply, refuse, deliver, call}
-use Rattle.synth.specs.declared.State.{State}
-use Rattle.synth.specs.declared.State.the-variants.{Idle, Speaking, Paused}
+use Rattle.synth.specs.Calls.{Lent, input, report, Reply, refuse, deliver, awaits, isNoScore, isNoCause, call}
 use Rattle.synth.specs.declared.Entry.{Entry}
-use Rattle.demands.specs.Demands.{Line, isSilent, ending, outcome, stated, table, firstDue}
-use Rattle.engine.proofs.Reports.{no-such-cause, idle-silent, paused-silent, speaking-completes, has-active}
+use Rattle.demands.specs.Demands.{Line, ending, outcome, stated, table, firstDue}
+use Rattle.engine.proofs.Reports.{no-such-cause, no-number, nothing-awaited, ends, has-active}
 
 -- a refusal, which is no 0, and 21 only where the channel is not sound; or the outcome
 abbrev pub Gives : View → ℕ → Outcome → Option Line → Turn View Reply → Type 0
@@ -39,7 +39,7 @@ module _ (v : View) (room : ℕ) where
   unsound : (lent : Lent) → sound v ≡ false → Tabled v lent room
   unfolding call table
   unsound (input s) e = rw (e, call, table) (refl, refl, λ y. absurd (false≢true (sym e ∙ y)))
-  unsound (cause n) e = rw (e, call, table) (refl, refl, λ y. absurd (false≢true (sym e ∙ y)))
+  unsound (report cause score) e = rw (e, call, table) (refl, refl, λ y. absurd (false≢true (sym e ∙ y)))
 
   module _ (sane : sound v ≡ true) where
     module _ (s : List ℕ) where
@@ -50,7 +50,7 @@ module _ (v : View) (room : ℕ) where
         module _ (x : Start Span) (at : ℕ) (g : startLine k (take n s) ≡ started x at) where
           -- the exact answer to a request is longer than the output, or not
           answer-fits : (name : List ℕ) (id : ℕ) (fs : Fields (List ℕ)) → readBytes s ≡ message head (request name id) fs
-              → (c : Bool) → ltb room (length (writtenAll (judge v (requestOf head name id fs) .says))) ≡ c → Tabled v (input s) room
+              → (c : Bool) → ltb room (length (writtenAll (judge v (requestOf (kind v) head name id fs) .says))) ≡ c → Tabled v (input s) room
           unfolding call table deliver
           answer-fits name id fs e true r = rw (sane, f, e, g, r, call, table, deliver) (refl, refl, λ y. refl)
           answer-fits name id fs e false r = rw (sane, f, e, g, r, call, table, deliver) refl
@@ -74,35 +74,53 @@ module _ (v : View) (room : ℕ) where
       unfolding readBytes reading
       message-tabled = by-framing (framing s) refl refl
 
-    module _ (n : ℕ) where
-      module _ (h : n ≤ 7) where
-        silent : isSilent (v .state) ≡ true → call v (record { lent = cause n; room = room }) ≡ refuse v 8 0 → Tabled v (cause n) room
-        unfolding table
-        silent e t = rw (sane, le-ltb 7 n h, e, table) (t, refl, λ y. refl)
+    module _ (cause : ℕ) (score : Float) where
+      abbrev made : Lent
+      made = report cause score
 
-        -- the event that ends the active one is longer than the output, or not
-        module _ (e : Entry) (queue : List Entry) (q : v .queue ≡ e ∷ queue) (x : v .state ≡ Speaking) where
-          ends : ending v (v .queue) n ≡ completed e queue v n
-          ends = ap (λ (l : List Entry). ending v l n) q
-
-          event-fits : (c : Bool) → ltb room (length (writtenAll (completed e queue v n .says))) ≡ c → Tabled v (cause n) room
-          unfolding table deliver
-          event-fits true r = rw (sane, le-ltb 7 n h, ap isSilent x, ends, r, table) (rw (r, deliver) at (speaking-completes v n room sane h x e queue q), refl, λ y. refl)
-          event-fits false r = rw (sane, le-ltb 7 n h, ap isSilent x, ends, r, table) (rw (r, deliver) at (speaking-completes v n room sane h x e queue q))
-
-        by-state : (x : State) → v .state ≡ x → Tabled v (cause n) room
-        by-state Idle e = silent (ap isSilent e) (idle-silent v n room sane h e)
-        by-state Paused e = silent (ap isSilent e) (paused-silent v n room sane h e)
-        by-state Speaking e = let a = has-active v sane e in event-fits (a .entry) (a .others) (a .queued) e _ refl
-
-      by-cause : (c : Bool) → ltb 7 n ≡ c → Tabled v (cause n) room
+      no-cause : isNoCause (kind v) cause ≡ true → Tabled v made room
       unfolding table
-      by-cause true h = rw (sane, h, table) (no-such-cause v n room sane (ltb-true 7 n h), refl, λ y. refl)
-      by-cause false h = by-state (ltb-false 7 n h) (v .state) refl
+      no-cause h = rw (sane, h, table) (no-such-cause v (kind v) refl cause score room sane (leb-true (length (causeNames (kind v))) cause h), refl, λ y. refl)
+
+      module _ (h : isNoCause (kind v) cause ≡ false) where
+        has : cause < length (causeNames (kind v))
+        has = leb-false (length (causeNames (kind v))) cause h
+
+        no-score : isNoScore (kind v) score ≡ true → Tabled v made room
+        unfolding table
+        no-score n = rw (sane, h, n, table) (no-number v (kind v) refl cause score room sane has n, refl, λ y. refl)
+
+        module _ (n : isNoScore (kind v) score ≡ false) where
+          silent : awaits (v .state) ≡ false → Tabled v made room
+          unfolding table
+          silent s = rw (sane, h, n, s, table) (nothing-awaited v (kind v) refl cause score room sane has n s, refl, λ y. refl)
+
+          -- the events are longer than the output, or not
+          module _ (e : Entry) (queue : List Entry) (q : v .queue ≡ e ∷ queue) (s : awaits (v .state) ≡ true) where
+            ended : ending v (v .queue) cause score ≡ completed (kind v) e queue v cause score
+            ended = ap (λ (l : List Entry). ending v l cause score) q
+
+            events-fit : (c : Bool) → ltb room (length (writtenAll (completed (kind v) e queue v cause score .says))) ≡ c → Tabled v made room
+            unfolding table deliver
+            events-fit true r =
+                rw (sane, h, n, s, ended, r, table) (rw (r, deliver) at (ends v (kind v) refl cause score room sane has n s e queue q), refl, λ y. refl)
+            events-fit false r = rw (sane, h, n, s, ended, r, table) (rw (r, deliver) at (ends v (kind v) refl cause score room sane has n s e queue q))
+
+          by-state : (b : Bool) → awaits (v .state) ≡ b → Tabled v made room
+          by-state true s = let a = has-active v sane s in events-fit (a .entry) (a .others) (a .queued) s _ refl
+          by-state false s = silent s
+
+        by-score : (b : Bool) → isNoScore (kind v) score ≡ b → Tabled v made room
+        by-score true n = no-score n
+        by-score false n = by-state n (awaits (v .state)) refl
+
+      by-cause : (b : Bool) → isNoCause (kind v) cause ≡ b → Tabled v made room
+      by-cause true h = no-cause h
+      by-cause false h = by-score h (isNoScore (kind v) score) refl
 
     on-sound : (lent : Lent) → Tabled v lent room
     on-sound (input s) = message-tabled s
-    on-sound (cause n) = by-cause n (ltb 7 n) refl
+    on-sound (report cause score) = by-cause cause score (isNoCause (kind v) cause) refl
 
 pub tabled : (v : View) (lent : Lent) (room : ℕ) → Tabled v lent room
 tabled v lent room = go (sound v) refl

@@ -1,11 +1,12 @@
 -- Demands 1 and 3 of the code, over the clause that the contracts of `handle` and `report` promise: document 01, "Refusal numbers" and "How
--- tight the promises are".
+-- tight the promises are", and document 02, K1.
 use Prim.Native.Nat.{ℕ}
 use mathlib.Core.Path.{_≡_}
 use mathlib.Core.Bool.{Bool, true, false, not}
 use mathlib.Core.Option.{Option, none, some}
 use mathlib.Core.List.{List, [], _∷_, _++_}
 use lib.Dec.{eqb, ltb}
+use lib.Ieee.{Float}
 use lib.ListN.{length, take, drop}
 use Rattle.lists.specs.Lists.{All}
 use Rattle.framing.specs.Framing.{framing, refusal, frameLength}
@@ -16,13 +17,12 @@ use Rattle.message.specs.StartLines.{Started, started, startLine}
 use Rattle.message.specs.Reading.{readBytes}
 use Rattle.answer.specs.Written.{writtenAll}
 use Rattle.ledger.specs.Ledger.{Exchange, Balanced, Run}
-use Rattle.synth.specs.Channel.{View, held, sound}
+use Rattle.synth.specs.Channel.{View, kind, held, sound}
 use Rattle.synth.specs.Request.{requestOf}
 use Rattle.synth.specs.States.{Outcome, judge, completed}
-use Rattle.synth.specs.Calls.{Lent, input, cause, Call, Reply, openChannel}
+use Rattle.synth.specs.Calls.{Lent, input, report, Call, Reply, awaits, isNoScore, isNoCause, openChannel}
 use Rattle.synth.specs.Demand3.{accepts, closes}
 use Rattle.synth.specs.declared.State.{State}
-use Rattle.synth.specs.declared.State.the-variants.{Idle, Speaking, Paused}
 use Rattle.synth.specs.declared.Entry.{Entry}
 use Rattle.synth.specs.declared.LastId.{LastId}
 use Rattle.synth.specs.declared.LastId.the-variants.{NoneSeen}
@@ -62,11 +62,9 @@ noRequest (message h (request name id) fs) = false
 noRequest (message h (response id status state) fs) = true
 noRequest (message h (event name id state) fs) = true
 
--- 8: nothing is speaking (idle or paused)
+-- 8: nothing is speaking, or being recognized
 abbrev pub isSilent : State → Bool
-isSilent Idle = true
-isSilent Speaking = false
-isSilent Paused = true
+isSilent s = not (awaits s)
 
 -- nothing is said, and the channel stays as it was
 abbrev pub nothing : View → Outcome
@@ -75,19 +73,19 @@ nothing v = record { says = []; next = v }
 -- what is said to a request, and the channel afterwards
 abbrev pub answering : View → Reading (List ℕ) → Outcome
 answering v (refused number consumed) = nothing v
-answering v (message h (request name id) fs) = judge v (requestOf h name id fs)
+answering v (message h (request name id) fs) = judge v (requestOf (kind v) h name id fs)
 answering v (message h (response id status state) fs) = nothing v
 answering v (message h (event name id state) fs) = nothing v
 
 -- the same of a report, which ends the active one
-abbrev pub ending : View → List Entry → ℕ → Outcome
-ending v [] n = nothing v
-ending v (e ∷ queue) n = completed e queue v n
+abbrev pub ending : View → List Entry → ℕ → Float → Outcome
+ending v [] cause score = nothing v
+ending v (e ∷ queue) cause score = completed (kind v) e queue v cause score
 
 -- what a call that no line refuses says, and the channel afterwards
 abbrev pub outcome : View → Lent → Outcome
 outcome v (input s) = answering v (readBytes s)
-outcome v (cause n) = ending v (v .queue) n
+outcome v (report cause score) = ending v (v .queue) cause score
 
 -- the exact answer
 abbrev pub exact : View → Lent → List ℕ
@@ -96,7 +94,7 @@ exact v lent = writtenAll (outcome v lent .says)
 -- the stated length; a report: none
 abbrev pub stated : Lent → ℕ
 stated (input s) = frameLength (framing s)
-stated (cause n) = 0
+stated (report cause score) = 0
 
 -- the refusals of a message and of a report, in the order in which they go before each other, where `room` bytes of output are lent
 unfoldable pub table : View → Lent → ℕ → List Line
@@ -110,11 +108,12 @@ table v (input s) room =
     ∷ given 6 (noRequest (readBytes s)) (stated (input s))  -- framed, a response or event, no request
     ∷ given 7 (ltb room (length (exact v (input s)))) 0  -- the exact answer is longer than the lent output
     ∷ []
-table v (cause n) room =
+table v (report cause score) room =
     given 21 (not (sound v)) 0
-    ∷ given 9 (ltb 7 n) 0  -- engine cause above 7
-    ∷ given 8 (isSilent (v .state)) 0  -- engine report while nothing is speaking
-    ∷ given 7 (ltb room (length (exact v (cause n)))) 0
+    ∷ given 9 (isNoCause (kind v) cause) 0  -- engine cause above 7, on a recognizer above 15
+    ∷ given 11 (isNoScore (kind v) score) 0  -- on a recognizer, a score that is no number
+    ∷ given 8 (isSilent (v .state)) 0  -- engine report while nothing is speaking, or being recognized
+    ∷ given 7 (ltb room (length (exact v (report cause score)))) 0
     ∷ []
 
 -- the first line that is due, if any is

@@ -6,6 +6,7 @@ use mathlib.Core.Bool.{true, not}
 use mathlib.Core.Option.{Option, none, some}
 use mathlib.Core.List.{List, [], _∷_, _++_}
 use lib.Dec.{eqb, ltb}
+use lib.Ieee.{Float}
 use lib.ListN.{length, take, drop, getD}
 use Rattle.lists.specs.Lists.{All, minus}
 use Rattle.framing.specs.Framing.{framing, refusal}
@@ -18,7 +19,7 @@ use Rattle.messagenumbers.specs.Layout.{Face, messageNumbers}
 use Rattle.firmware.specs.Face.{frameFace, readFace, ReadCall, called}
 use Rattle.ledger.specs.Ledger.{Exchange, Balanced, Run, Turn, after, trace, accepted, closed}
 use Rattle.synth.specs.Channel.{View, fresh, wellNamed, sound, held}
-use Rattle.synth.specs.Calls.{Lent, input, cause, Call, Reply}
+use Rattle.synth.specs.Calls.{Lent, input, report, Call, Reply}
 use Rattle.synth.specs.Demand3.{accepts, closes}
 use Rattle.channelnumbers.specs.Numbers.{numbersOf, viewOf}
 use Rattle.klarvesimo.specs.Face.{OpenFace, openFace, callFace, heldFace}
@@ -28,7 +29,7 @@ use Rattle.demands.specs.Demands.{Line, given, malformedIn, table, first
 -- the functions that get a channel's 64 numbers, with all else that is lent to them
 pub data OnChannel : Type 0 where
   handles : (s out counts : List ℕ) → OnChannel  -- klarvesimo_handle
-  reports : (n : ℕ) (out written : List ℕ) → OnChannel  -- klarvesimo_report
+  reports : (cause : ℕ) (score : Float) (out written : List ℕ) → OnChannel  -- klarvesimo_report
   lists : (ids count : List ℕ) → OnChannel  -- klarvesimo_held
 
 -- a call of the C face, with all that is lent to it; klarvesimo_open does not look at the numbers that it sets
@@ -44,7 +45,7 @@ Places (opens name) = Unit {0}
 Places (frames s out) = Unit {0}
 Places (reads s out consumed) = length consumed ≡ 1
 Places (on ws (handles s out counts)) = length counts ≡ 2
-Places (on ws (reports n out written)) = length written ≡ 1
+Places (on ws (reports cause score out written)) = length written ≡ 1
 Places (on ws (lists ids count)) = length count ≡ 1
 
 -- the number returned, and each lent array that can change
@@ -53,7 +54,7 @@ Returned (opens name) = OpenFace
 Returned (frames s out) = Face
 Returned (reads s out consumed) = ReadCall
 Returned (on ws (handles s out counts)) = HandleCall
-Returned (on ws (reports n out written)) = ReportCall
+Returned (on ws (reports cause score out written)) = ReportCall
 Returned (on ws (lists ids count)) = HeldCall
 
 -- what the contract of each function says that it returns and leaves: the right side of its `ensures`
@@ -62,7 +63,7 @@ returned (opens name) = openFace name
 returned (frames s out) = frameFace s out
 returned (reads s out consumed) = called consumed (readFace s out)
 returned (on ws (handles s out counts)) = counted counts (callFace ws (input s) out)
-returned (on ws (reports n out written)) = reported written (callFace ws (cause n) out)
+returned (on ws (reports cause score out written)) = reported written (callFace ws (report cause score) out)
 returned (on ws (lists ids count)) = listed count (heldFace ws ids)
 
 abbrev pub seenAs : Option View → View
@@ -108,7 +109,7 @@ refusals (reads s out consumed) =
     ∷ given 7 (ltb (length out) (length (numbersIn s (reading s)))) 0
     ∷ []
 refusals (on ws (handles s out counts)) = table (channelIn ws) (input s) (length out)  -- 21, 1 to 6, 7
-refusals (on ws (reports n out written)) = table (channelIn ws) (cause n) (length out)  -- 21, 9, 8, 7
+refusals (on ws (reports cause score out written)) = table (channelIn ws) (report cause score) (length out)  -- 21, 9, 11, 8, 7
 refusals (on ws (lists ids count)) =
     given 21 (not (sound (channelIn ws))) 0
     ∷ given 7 (ltb (length ids) (length (held (channelIn ws)))) 0
@@ -126,7 +127,7 @@ refusedBy l (frames s out) = record { number = l .number; out = out }
 refusedBy l (reads s out consumed) = record { number = l .number; consumed = l .consumed ∷ []; out = out }
 refusedBy l (on ws (handles s out counts)) =
     record { number = l .number; channel = ws; counts = l .consumed ∷ 0 ∷ []; out = out }
-refusedBy l (on ws (reports n out written)) = record { number = l .number; channel = ws; written = 0 ∷ []; out = out }
+refusedBy l (on ws (reports cause score out written)) = record { number = l .number; channel = ws; written = 0 ∷ []; out = out }
 refusedBy l (on ws (lists ids count)) = record { number = l .number; count = 0 ∷ []; ids = ids }
 
 -- None due: 0, the stated length as consumed, the length of the exact answer as written, the answer at the front of the
@@ -144,13 +145,13 @@ answered (on ws (handles s out counts)) =
       counts = stated (input s) ∷ length (exact v (input s)) ∷ [];
       out = atFront (exact v (input s)) out;
     }
-answered (on ws (reports n out written)) =
+answered (on ws (reports cause score out written)) =
     let v : View = channelIn ws in
     record {
       number = 0;
-      channel = numbersOf (outcome v (cause n) .next);
-      written = length (exact v (cause n)) ∷ [];
-      out = atFront (exact v (cause n)) out;
+      channel = numbersOf (outcome v (report cause score) .next);
+      written = length (exact v (report cause score)) ∷ [];
+      out = atFront (exact v (report cause score)) out;
     }
 answered (on ws (lists ids count)) =
     let v : View = channelIn ws in
@@ -165,10 +166,10 @@ byLine none c = answered c
 abbrev pub Demand1OfTheFace : Type 0
 Demand1OfTheFace = (c : FromC) → Places c → returned c ≡ byLine (firstDue (refusals c)) c
 
--- a message is handed in by klarvesimo_handle, a report's cause by klarvesimo_report
+-- a message is handed in by klarvesimo_handle, a report's cause and score by klarvesimo_report
 abbrev pub handing : Lent → List ℕ → List ℕ → OnChannel
 handing (input s) out counts = handles s out counts
-handing (cause n) out written = reports n out written
+handing (report cause score) out written = reports cause score out written
 
 -- What C sees of such a call: the number, the count consumed (of a report: none), and of the output as many bytes as
 -- the count written says.
@@ -176,16 +177,16 @@ abbrev pub seen : List ℕ → Lent → List ℕ → List ℕ → Reply
 seen ws (input s) out counts =
     let f : HandleCall = returned (on ws (handles s out counts)) in
     record { number = f .number; consumed = getD (f .counts) 0 0; written = take (getD (f .counts) 1 0) (f .out) }
-seen ws (cause n) out written =
-    let f : ReportCall = returned (on ws (reports n out written)) in
+seen ws (report cause score) out written =
+    let f : ReportCall = returned (on ws (reports cause score out written)) in
     record { number = f .number; consumed = 0; written = take (getD (f .written) 0 0) (f .out) }
 
 -- the number that a call on the channel's numbers ws returns, and the numbers that it leaves
 abbrev pub stepped : List ℕ → OnChannel → Turn (List ℕ) ℕ
 stepped ws (handles s out counts) =
     let f : HandleCall = returned (on ws (handles s out counts)) in record { reply = f .number; next = f .channel }
-stepped ws (reports n out written) =
-    let f : ReportCall = returned (on ws (reports n out written)) in record { reply = f .number; next = f .channel }
+stepped ws (reports cause score out written) =
+    let f : ReportCall = returned (on ws (reports cause score out written)) in record { reply = f .number; next = f .channel }
 stepped ws (lists ids count) =
     let f : HeldCall = returned (on ws (lists ids count)) in record { reply = f .number; next = ws }
 

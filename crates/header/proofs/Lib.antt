@@ -1,4 +1,4 @@
-pub mod Numerals
+pub mod Lengths
 pub mod Values
 pub mod Four
 pub mod Places

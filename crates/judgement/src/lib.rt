@@ -1,5 +1,5 @@
-// The order of judgement for a request: document 01, "The order of judgement for a request". Judgements 6 to 11 are
-// those of each method.
+// The order of judgement for a request: document 01, "The order of judgement for a request", and document 02,
+// K1. Judgements 6 to 11 are those of each method.
 ghost use mathlib.Core.Path.{_≡_};
 ghost use mathlib.Core.Bool.{_&&_};
 ghost use mathlib.Core.Option.{some};
@@ -10,6 +10,7 @@ ghost use lib.ListN.{length};
 ghost use Rattle.message.specs.Message.{Fields, part, onFields};
 ghost use Rattle.message.specs.Reading.{fieldsFrom};
 ghost use Rattle.message.specs.declared.Known.the-variants.{ChannelIdentifier};
+ghost use Rattle.synth.specs.Kinds.{kindOf, methodIn};
 ghost use Rattle.synth.specs.Request.{methodOf, acting};
 ghost use Rattle.synth.specs.Judgement.{_then_, ours, above};
 ghost use Rattle.synth.specs.States.{afterEarly, judge as judged};
@@ -77,11 +78,12 @@ fn judge_fields(
     c: channel::Channel,
     f: &[u8],
     h: header::Header,
+    kind: answer::Kind,
     m: synth::Method,
     id: u32,
 ) -> Judged
-    ensures { λ j. ⌜ (length (nameOf (c .name)) ≤ 44 → length (listOf (c .queue)) ≤ 16
-        → (major minor : ℕ) (fs : Fields (List ℕ)) → Tells (now (f .entry)) h fs → (let v = view last c in
+    ensures { λ j. ⌜ (kind ≡ kindOf (nameOf (c .name)) → length (nameOf (c .name)) ≤ 44
+        → length (listOf (c .queue)) ≤ 16 → (major minor : ℕ) (fs : Fields (List ℕ)) → Tells (now (f .entry)) h fs → (let v = view last c in
         let r = asked major minor m id fs in Judges v j (afterEarly (fromFields v r) v r))) ⌝ }
 {
     let name = c.name;
@@ -94,7 +96,7 @@ fn judge_fields(
             Judged { last, outcome }
         }
         values::Verdict::Passes => {
-            let outcome = methods::act(state, queue, f, h, m, id);
+            let outcome = methods::act(kind, state, queue, f, h, m, id);
             let last = synth::LastId::Seen(id);
             Judged { last, outcome }
         }
@@ -114,8 +116,8 @@ pub fn judge(
     id: u32,
 ) -> Judged
     ensures { λ j. ⌜ (length (nameOf (c .name)) ≤ 44 → length (listOf (c .queue)) ≤ 16 → Judges (view last c) j
-        (judged (view last c) (asked major minor (methodOf (part (now (f .entry)) name)) id
-        (onFields (part (now (f .entry))) (fieldsFrom (now (f .entry)) at))))) ⌝ }
+        (judged (view last c) (asked major minor (methodIn (kindOf (nameOf (c .name)))
+        (methodOf (part (now (f .entry)) name))) id (onFields (part (now (f .entry))) (fieldsFrom (now (f .entry)) at))))) ⌝ }
 {
     if !is_current(major, minor) {
         let state = c.state;
@@ -124,7 +126,8 @@ pub fn judge(
         let outcome = outcomes::failed(state, queue, id, status);
         return Judged { last, outcome };
     }
-    let m = methodnames::method(message::part(f, name));
+    let kind = channel::kind(c);
+    let m = methodnames::method_in(kind, methodnames::method(message::part(f, name)));
     let h = request::read(f, at);
-    judge_fields(last, c, f, h, m, id)
+    judge_fields(last, c, f, h, kind, m, id)
 }

@@ -4,7 +4,7 @@ ghost use mathlib.Core.Path.{_≡_};
 ghost use mathlib.Core.List.{_++_};
 ghost use Prim.Native.Nat.{_≤_};
 ghost use lib.ListN.{length, take, drop};
-ghost use Rattle.synth.specs.Calls.{input, cause as causeOf};
+ghost use Rattle.synth.specs.Calls.{input, report as reportOf};
 ghost use Rattle.klarvesimo.specs.Face.{openFace, callFace, counted, reported, heldFace, listed};
 
 #[no_mangle]
@@ -45,22 +45,24 @@ pub extern "C" fn klarvesimo_handle(
     0
 }
 
-// An engine report.
+// An engine report: its cause, and the score of what was recognized.
 #[no_mangle]
 pub extern "C" fn klarvesimo_report(
     channel: &mut [u64; 64],
     cause: u32,
+    score: f32,
     out: &mut [u8],
     written: &mut [u64; 1],
 ) -> u32
     ensures { λ r. ⌜
         record { number = r; channel = now (channel .exit); written = now (written .exit); out = now (out .exit) }
-        ≡ reported (now (written .entry)) (callFace (now (channel .entry)) (causeOf cause) (now (out .entry))) ⌝ }
+        ≡ reported (now (written .entry))
+        (callFace (now (channel .entry)) (reportOf cause score) (now (out .entry))) ⌝ }
 {
     let l = loading::load(channel);
     let last = l.last;
     let c = l.channel;
-    let r = engine::report(last, c, cause, out);
+    let r = engine::report(last, c, cause, score, out);
     written[0] = r.written as u64;
     if r.number != 0 {
         return r.number;

@@ -1,36 +1,43 @@
 -- One turn of each loop that loads, and what numbers that do not fit say. Assumes nothing.
-use Prim.Native.Nat.{ℕ, zero, suc, _+_, _*_, _/_, _≤_, _<_}
-use mathlib.Core.Path.{_≡_, refl, sym, ap, _∙_}
-use mathlib.Core.Bool.{Bool, true, false, _&&_, _||_, false≢true}
+use Prim.Native.Nat.{ℕ, zero, suc, _+_, _/_, _%_, _^_, _≤_, _<_}
+use mathlib.Core.Path.{_≡_, refl, sym, ap, ap₂, _∙_}
+use mathlib.Core.Bool.{Bool, true, false, _&&_, _||_, false≢true, cond}
 use mathlib.Core.Logic.{⊎-elim}
 use mathlib.Core.Option.{Option, none, some}
-use mathlib.Core.List.{List, [], _∷_, _++_, map, map-append}
-use native.Mathlib.Nat.{add-zero, add-suc, suc-add}
+use mathlib.Core.List.{List, [], _∷_, _++_, map, map-append, map-id}
+use native.Mathlib.Nat.{add-zero, add-suc, suc-add, le-trans, lt-of-le-of-lt}
 use native.Mathlib.Numerals.{add-one}
 use native.Mathlib.Omega.{arith}
-use lib.Dec.{eqb, leb}
-use lib.ListN.{length, take, getD, set, length-append, length-map, length-take, length-replicate}
+use lib.Bits.{bitOr, or-lt, or-add-and, and-le-l, and-le-r}
+use lib.Dec.{eqb, leb, ltb}
+use lib.ListN.{length, take, getD, set, replicate, length-append, length-map, length-take, length-replicate}
 use lib.Seq.{take-suc-set}
 use borrow.Author.Tests.{lt-ltb, ltb-true, le-leb, leb-true, eqb-true}
 use Rattle.lists.specs.Lists.{all}
-use Rattle.lists.proofs.Tests.{both, either, refuted}
+use Rattle.lists.proofs.Tests.{both, choose, either, refuted}
 use Rattle.lists.proofs.Scans.{all-append, all-of}
 use Rattle.octets.specs.Octets.{within, isValue}
-use Rattle.synth.specs.Channel.{ids, firstAbove, sound}
+use Rattle.answer.specs.declared.Kind.{Kind}
+use Rattle.synth.specs.Kinds.{most}
+use Rattle.synth.specs.Channel.{View, kind, ids, firstAbove, sound}
 use Rattle.synth.specs.declared.State.{State}
-use Rattle.synth.specs.declared.State.the-variants.{Paused}
+use Rattle.synth.specs.declared.State.the-variants.{Recognized}
 use Rattle.synth.specs.declared.Entry.{Entry}
 use Rattle.synth.specs.declared.LastId.{LastId}
-use Rattle.synth.proofs.Channels.{Small, small-by, sound-facts, held-small}
+use Rattle.synth.proofs.Channels.{Small, small-by, most-16, sound-facts, held-small}
 use Rattle.synth.proofs.Names as S
-use Rattle.queue.specs.Queue.{listOf}
-use Rattle.channelnames.specs.Names.{nameOf}
+use Rattle.queue.specs.Queue.{entryOf, entriesOf, listOf}
+use Rattle.queue.proofs.Queues.{entries-long, within as within-queue}
+use Rattle.channelnames.specs.Names.{nameOf, kindBy}
 use Rattle.channelnames.proofs.Fits.{name-fits}
+use Rattle.channelnames.proofs.Names.{within as within-name}
 use Rattle.channel.specs.Channel.{view}
 use Rattle.channel.specs.declared.Channel.{Channel}
-use Rattle.channelnumbers.specs.Numbers.{stateAt, lastAt, entryAt, numbersAt, isEntry, isByte, viewAt, viewOf, isSound}
+use Rattle.channelnumbers.specs.Numbers.{thresholds, stateAt, lastAt, entryAt, leveled, numbersAt, entriesAt, isThreshold, thresholdsFit, viewWith, viewAt, viewOf, isSound, isEntry, isByte}
+use Rattle.channelnumbers.specs.Steps.{thresholdCount}
+use Rattle.channelnumbers.proofs.Theorems.LoadSaved.{sound-few, fit-some}
 use Rattle.loading.specs.Loading.{Loads}
-use Rattle.loading.specs.Steps.{frontFits, queueFits, nameFits, LoadsPart}
+use Rattle.loading.specs.Steps.{frontFits, entriesFit, levelsFit, queueFits, nameFits, LoadsPart}
 
 numbers-count : (at n : ℕ) (ws : List ℕ) → length (numbersAt at n ws) ≡ n
 numbers-count at zero ws = refl
@@ -72,71 +79,128 @@ all-last test (y ∷ l) x h =
     (rw (p .0, q .0), q .1)
 
 -- one element more of an array
-pub loaded-more : {A : Type 0} (f : ℕ → A) (at : ℕ) (ws : List ℕ) (r : List A) (i : ℕ) → i < length r → take i r ≡ map f (numbersAt at i ws)
+loaded-more : {A : Type 0} (f : ℕ → A) (at : ℕ) (ws : List ℕ) (r : List A) (i : ℕ) → i < length r → take i r ≡ map f (numbersAt at i ws)
     → take (i + 1) (set r i (f (getD ws (at + i) 0))) ≡ map f (numbersAt at (i + 1) ws)
 loaded-more f at ws r i k e = rw (numbers-more at i ws, map-append, add-one i, take-suc-set r i, e)
 
-pub bytes-more : (at : ℕ) (ws r : List ℕ) (i : ℕ) → i < length r → take i r ≡ numbersAt at i ws
-    → take (i + 1) (set r i (getD ws (at + i) 0)) ≡ numbersAt at (i + 1) ws
-bytes-more at ws r i k e = rw (numbers-more at i ws, add-one i, take-suc-set r i, e)
+pub recognized-at : (n : ℕ) → (n ≡ 0 → ⊥) → (n ≡ 1 → ⊥) → (n ≡ 2 → ⊥) → (n ≡ 3 → ⊥) → n ≤ 4 → stateAt n ≡ some Recognized
+recognized-at zero a b c d h = absurd (a refl)
+recognized-at (suc zero) a b c d h = absurd (b refl)
+recognized-at (suc (suc zero)) a b c d h = absurd (c refl)
+recognized-at (suc (suc (suc zero))) a b c d h = absurd (d refl)
+recognized-at (suc (suc (suc (suc zero)))) a b c d h = refl
+recognized-at (suc (suc (suc (suc (suc n))))) a b c d h = absurd (omega arith)
 
-pub paused-at : (n : ℕ) → (n ≡ 0 → ⊥) → (n ≡ 1 → ⊥) → n ≤ 2 → stateAt n ≡ some Paused
-paused-at zero z o h = absurd (z refl)
-paused-at (suc zero) z o h = absurd (o refl)
-paused-at (suc (suc zero)) z o h = refl
-paused-at (suc (suc (suc n))) z o h = absurd (omega arith)
+-- what a loop gathers is below 2^k exactly while each number is, and then they are what was loaded
+pub record Gathered {A : Type 0} (k : ℕ) (f : ℕ → A) (at : ℕ) (ws : List ℕ) (l : List A) (bits i : ℕ) : Type 0 where
+  pub fit : bits < 2 ^ k → (all (λ n. ltb n (2 ^ k)) (numbersAt at i ws) ≡ true) × (take i l ≡ map f (numbersAt at i ws))
+  pub below : all (λ n. ltb n (2 ^ k)) (numbersAt at i ws) ≡ true → bits < 2 ^ k
 
--- what the loop over the entries sums up is 0 exactly while each number was an entry's
-pub record Summed (ws : List ℕ) (entries : List Entry) (over i : ℕ) : Type 0 where
-  pub few : over ≤ i * 2147483648
-  pub entry : over ≡ 0 → (all isEntry (numbersAt 4 i ws) ≡ true) × (take i entries ≡ map entryAt (numbersAt 4 i ws))
-  pub over-none : all isEntry (numbersAt 4 i ws) ≡ true → over ≡ 0
+or-above : (a b : ℕ) → (a ≤ bitOr a b) × (b ≤ bitOr a b)
+or-above a b = let e = or-add-and a b in let l = and-le-l a b in let r = and-le-r a b in (omega (arith, e, r), omega (arith, e, l))
 
-pub summed-none : (ws : List ℕ) (entries : List Entry) → Summed ws entries 0 0
-summed-none ws entries = record { few = omega arith; entry = λ z. (refl, refl); over-none = λ z. refl }
+module _ {A : Type 0} {k : ℕ} {f : ℕ → A} {at : ℕ} (ws : List ℕ) (l : List A) where
+  pub gathered-none : 0 < 2 ^ k → Gathered k f at ws l 0 0
+  gathered-none h = record { fit = λ z. (refl, refl); below = λ z. h }
 
-pub summed-more : (ws : List ℕ) (entries : List Entry) (over i n more : ℕ) (e : Entry) → n ≡ getD ws (4 + i) 0 → (more ≡ n / 8589934592) × (more ≤ 2147483647)
-    → i < length entries → (n < 8589934592 → e ≡ entryAt n) → Summed ws entries over i → Summed ws (set entries i e) (over + more) (i + 1)
-summed-more ws entries over i n more e is past h f s = record {
-  few = omega (arith, s .few, past .1);
-  entry = λ z.
-      let p = s .entry (omega (arith, z)) in
-      let small : n < 8589934592 = omega (arith, z, past .0) in
-      let test : isEntry (getD ws (4 + i) 0) ≡ true = rw (← is) (lt-ltb n 8589934592 small) in
-      (all-more isEntry ws 4 i (p .0) test, rw (f small, is) (loaded-more entryAt 4 ws entries i h (p .1)));
-  over-none = λ a.
-      let p = all-last isEntry (numbersAt 4 i ws) (getD ws (4 + i) 0) (rw (numbers-more 4 i ws) at a) in
-      let small : n < 8589934592 = rw (← is) at (ltb-true (getD ws (4 + i) 0) 8589934592 (p .1)) in
-      omega (arith, s .over-none (p .0), small, past .0);
-}
+  pub gathered-more : (bits i : ℕ) (e : A) → i < length l → (getD ws (at + i) 0 < 2 ^ k → e ≡ f (getD ws (at + i) 0))
+      → Gathered k f at ws l bits i → Gathered k f at ws (set l i e) (bitOr bits (getD ws (at + i) 0)) (i + 1)
+  gathered-more bits i e h is s = record {
+    fit = λ z.
+        let above = or-above bits (getD ws (at + i) 0) in
+        let q = s .fit (lt-of-le-of-lt (above .0) z) in
+        let t = lt-of-le-of-lt (above .1) z in
+        (all-more (λ n. ltb n (2 ^ k)) ws at i (q .0) (lt-ltb (getD ws (at + i) 0) (2 ^ k) t), rw (is t) (loaded-more f at ws l i h (q .1)));
+    below = λ a.
+        let q = all-last (λ n. ltb n (2 ^ k)) (numbersAt at i ws) (getD ws (at + i) 0) (rw (numbers-more at i ws) at a) in
+        or-lt k bits (getD ws (at + i) 0) (s .below (q .0)) (ltb-true (getD ws (at + i) 0) (2 ^ k) (q .1));
+  }
 
-pub front-few : (ws : List ℕ) → frontFits ws ≡ true → getD ws 2 0 ≤ 16
-front-few ws e = leb-true (getD ws 2 0) 16 (both (leb (getD ws 0 0) 2 && leb (getD ws 1 0) 4294967296) (leb (getD ws 2 0) 16) e .1)
+-- entries with thresholds
+leveled-ids : (q : List Entry) (l : List ℕ) → length q ≡ length l → ids (leveled q l) ≡ ids q
+leveled-ids [] l e = refl
+leveled-ids (x ∷ q) [] e = absurd (let z : suc (length q) ≡ 0 = e in omega arith)
+leveled-ids (x ∷ q) (n ∷ l) e = ap (λ (r : List ℕ). x .id ∷ r) (leveled-ids q l (omega (arith, e)))
+
+leveled-thresholds : (q : List Entry) (l : List ℕ) → length q ≡ length l → thresholds (leveled q l) ≡ l
+leveled-thresholds [] [] e = refl
+leveled-thresholds [] (n ∷ l) e = absurd (let z : 0 ≡ suc (length l) = e in omega arith)
+leveled-thresholds (x ∷ q) [] e = absurd (let z : suc (length q) ≡ 0 = e in omega arith)
+leveled-thresholds (x ∷ q) (n ∷ l) e = ap (λ (r : List ℕ). n ∷ r) (leveled-thresholds q l (omega (arith, e)))
+
+-- the entries of either kind
+module _ (n : ℕ) (ws : List ℕ) where
+  abbrev bare : List Entry
+  bare = map entryAt (numbersAt 4 n ws)
+
+  bare-count : length bare ≡ n
+  bare-count = length-map (numbersAt 4 n ws) entryAt ∙ numbers-count 4 n ws
+
+  as-many : length bare ≡ length (numbersAt 12 n ws)
+  as-many = bare-count ∙ sym (numbers-count 12 n ws)
+
+  entries-ids : (kind : Kind) → ids (entriesAt kind n ws) ≡ ids bare
+  entries-ids Kind.Synthesizer = refl
+  entries-ids Kind.Recognizer = leveled-ids bare (numbersAt 12 n ws) as-many
+
+  entries-count : (kind : Kind) → length (entriesAt kind n ws) ≡ n
+  entries-count kind =
+      sym (length-map (entriesAt kind n ws) (λ (e : Entry). e .id))
+      ∙ ap length (entries-ids kind)
+      ∙ length-map bare (λ (e : Entry). e .id)
+      ∙ bare-count
+
+  levels-are : thresholds (entriesAt Kind.Recognizer n ws) ≡ numbersAt 12 n ws
+  levels-are = leveled-thresholds bare (numbersAt 12 n ws) as-many
+
+bare-fit : (l : List ℕ) → all (isThreshold Kind.Synthesizer) (thresholds (map entryAt l)) ≡ true
+bare-fit [] = refl
+bare-fit (n ∷ l) = bare-fit l
+
+-- the front's tests, one by one
+pub record Front (kind : Kind) (ws : List ℕ) : Type 0 where
+  pub state : getD ws 0 0 ≤ 4
+  pub last : getD ws 1 0 ≤ 4294967296
+  pub few : getD ws 2 0 ≤ most kind
+
+front-facts : (kind : Kind) (ws : List ℕ) → frontFits kind ws ≡ true → Front kind ws
+front-facts kind ws e =
+    let p = both (leb (getD ws 0 0) 4 && leb (getD ws 1 0) 4294967296) (leb (getD ws 2 0) (most kind)) e in
+    let q = both (leb (getD ws 0 0) 4) (leb (getD ws 1 0) 4294967296) (p .0) in
+    record { state = leb-true (getD ws 0 0) 4 (q .0); last = leb-true (getD ws 1 0) 4294967296 (q .1); few = leb-true (getD ws 2 0) (most kind) (p .1) }
+
+front-few : (kind : Kind) (ws : List ℕ) → frontFits kind ws ≡ true → getD ws 2 0 ≤ 16
+front-few kind ws e = le-trans (front-facts kind ws e .few) (most-16 kind)
 
 -- a queue and a name that no sound channel has
-pub too-many : (entries : List Entry) → length entries ≡ 16 → 16 < length (listOf (record { entries = entries; count = 17 }))
+too-many : (numbers levels : List ℕ) → length numbers ≡ 16 → length levels ≡ 16
+    → 16 < length (listOf (record { numbers = numbers; thresholds = levels; count = 17 }))
 unfolding listOf
-too-many entries e = simp (length-append, length-take, length-replicate, e) (omega arith)
+too-many numbers levels e f =
+    let long : length (entriesOf numbers levels) ≡ 16 = entries-long numbers levels (f ∙ sym e) ∙ e in
+    simp (length-append, length-take, length-replicate, long) (omega arith)
 
-pub too-long : (bytes : List ℕ) → length bytes ≡ 44 → 44 < length (nameOf (record { bytes = bytes; size = 45 }))
+too-long : (bytes : List ℕ) → length bytes ≡ 44 → 44 < length (nameOf (record { bytes = bytes; size = 45 }))
 unfolding nameOf
 too-long bytes e = simp (length-append, length-take, length-replicate, e) (omega arith)
 
 module _ {A : Type 0} {fits : Bool} {said : List A} {most : ℕ} {loaded : List A} where
-  pub part-fits : fits ≡ true → loaded ≡ said → LoadsPart fits said most loaded
+  part-fits : fits ≡ true → loaded ≡ said → LoadsPart fits said most loaded
   part-fits f e = record { fit = λ z. e; unfit = λ z. absurd (false≢true (sym z ∙ f)) }
 
-  pub part-unfit : (fits ≡ true → ⊥) → most < length loaded → LoadsPart fits said most loaded
+  part-unfit : (fits ≡ true → ⊥) → most < length loaded → LoadsPart fits said most loaded
   part-unfit f h = record { fit = λ z. absurd (f z); unfit = λ z. h }
 
-state-within : (n : ℕ) (state : State) → stateAt n ≡ some state → n ≤ 2
+none-some : {A : Type 0} {x : A} → none ≡ some x → ⊥
+none-some {A} e = false≢true (ap (λ (o : Option A). elim o [ none ↦ false | some s ↦ true ]) e)
+
+state-within : (n : ℕ) (state : State) → stateAt n ≡ some state → n ≤ 4
 state-within zero state e = omega arith
 state-within (suc zero) state e = omega arith
 state-within (suc (suc zero)) state e = omega arith
-state-within (suc (suc (suc n))) state e = absurd (none-some e)
-  where
-    none-some : none ≡ some state → ⊥
-    none-some e = false≢true (ap (λ (o : Option State). elim o [ none ↦ false | some s ↦ true ]) e)
+state-within (suc (suc (suc zero))) state e = omega arith
+state-within (suc (suc (suc (suc zero)))) state e = omega arith
+state-within (suc (suc (suc (suc (suc n))))) state e = absurd (none-some e)
 
 above-is : (n : ℕ) → firstAbove (lastAt n) ≡ n
 above-is zero = refl
@@ -158,52 +222,207 @@ value-byte b h =
     (λ f. lt-ltb b 256 (omega (arith, leb-true b 255 (both (leb 128 b) (leb b 255) f .1))))
     (either (within 32 126 b || eqb b 9) (within 128 255 b) h)
 
+take-entries : (n : ℕ) (numbers levels : List ℕ) → take n (entriesOf numbers levels) ≡ entriesOf (take n numbers) (take n levels)
+take-entries zero numbers levels = refl
+take-entries (suc n) [] levels = refl
+take-entries (suc n) (h ∷ numbers) [] = refl
+take-entries (suc n) (h ∷ numbers) (m ∷ levels) = ap (λ (l : List Entry). entryOf h m ∷ l) (take-entries n numbers levels)
+
+-- the number of an entry tells it, with no threshold and with its own
+entry-told : (n m : ℕ) → isEntry n ≡ true → entryOf n m ≡ record { id = n / 2; kill = eqb (n % 2) 1; threshold = m }
+entry-told n m t =
+    let small : n < 8589934592 = ltb-true n 8589934592 t in
+    let id : n / 2 % 4294967296 ≡ n / 2 = omega (arith, small) in
+    λ i. record { id = id i; kill = eqb (n % 2) 1; threshold = m }
+
+bare-told : (l : List ℕ) (n : ℕ) → all isEntry l ≡ true → length l ≤ n → entriesOf l (take (length l) (replicate n 0)) ≡ map entryAt l
+bare-told [] n t h = refl
+bare-told (x ∷ l) zero t h = absurd (omega arith)
+bare-told (x ∷ l) (suc n) t h =
+    let p = both (isEntry x) (all isEntry l) t in
+    ap₂ (λ (e : Entry) (r : List Entry). e ∷ r) (entry-told x 0 (p .0)) (bare-told l n (p .1) (omega arith))
+
+leveled-told : (l m : List ℕ) → all isEntry l ≡ true → entriesOf l m ≡ leveled (map entryAt l) m
+leveled-told [] m t = refl
+leveled-told (x ∷ l) [] t = refl
+leveled-told (x ∷ l) (y ∷ m) t =
+    let p = both (isEntry x) (all isEntry l) t in
+    ap₂ (λ (e : Entry) (r : List Entry). e ∷ r) (entry-told x y (p .0)) (leveled-told l m (p .1))
+
+-- the queue that both loops leave
 module _ (ws : List ℕ) where
+  abbrev count : ℕ
+  count = getD ws 2 0
+
+  queue-fits : (kind : Kind) → entriesFit kind ws ≡ true → all (isThreshold kind) (thresholds (entriesAt kind count ws)) ≡ true → queueFits kind ws ≡ true
+  queue-fits Kind.Synthesizer e f = e
+  queue-fits Kind.Recognizer e f = let g : levelsFit count ws ≡ true = rw (levels-are count ws) at f in rw (e, g)
+
+  fits-entries : (kind : Kind) → queueFits kind ws ≡ true → (entriesFit kind ws ≡ true) × (all (isThreshold kind) (thresholds (entriesAt kind count ws)) ≡ true)
+  fits-entries Kind.Synthesizer e = (e, bare-fit (numbersAt 4 count ws))
+  fits-entries Kind.Recognizer e = let p = both (entriesFit Kind.Recognizer ws) (levelsFit count ws) e in (p .0, rw (levels-are count ws) (p .1))
+
+  loaded-entries : (kind : Kind) (numbers levels : List ℕ) → count ≤ 16 → all isEntry (numbersAt 4 count ws) ≡ true
+      → take count numbers ≡ map (λ (n : ℕ). n) (numbersAt 4 count ws)
+      → take (thresholdCount kind count) levels ≡ map (λ (n : ℕ). n) (numbersAt 12 (thresholdCount kind count) ws)
+      → (thresholdCount kind count ≡ 0 → levels ≡ replicate 16 0) → take count (entriesOf numbers levels) ≡ entriesAt kind count ws
+  loaded-entries Kind.Synthesizer numbers levels few t h l unset =
+      let size : length (numbersAt 4 count ws) ≡ count = numbers-count 4 count ws in
+      take-entries count numbers levels
+      ∙ ap₂ entriesOf (h ∙ map-id (numbersAt 4 count ws)) (ap (take count) (unset refl) ∙ ap (λ (n : ℕ). take n (replicate 16 0)) (sym size))
+      ∙ bare-told (numbersAt 4 count ws) 16 t (rw size few)
+  loaded-entries Kind.Recognizer numbers levels few t h l unset =
+      take-entries count numbers levels
+      ∙ ap₂ entriesOf (h ∙ map-id (numbersAt 4 count ws)) (l ∙ map-id (numbersAt 12 count ws))
+      ∙ leveled-told (numbersAt 4 count ws) (numbersAt 12 count ws) t
+
+  queue-unfit : (kind : Kind) → frontFits kind ws ≡ false → queueFits kind ws ≡ true → ⊥
+  queue-unfit kind f e = false≢true (sym f ∙ both (frontFits kind ws) (all isEntry (numbersAt 4 count ws)) (fits-entries kind e .0) .0)
+
+  -- both loops at their ends
+  module _ (kind : Kind) {numbers levels : List ℕ} {bits level-bits : ℕ} (e : Gathered 33 (λ (n : ℕ). n) 4 ws numbers bits count)
+      (l : Gathered 32 (λ (n : ℕ). n) 12 ws levels level-bits (thresholdCount kind count)) where
+    bits-fit : frontFits kind ws ≡ true → bits < 8589934592 → level-bits < 4294967296 → queueFits kind ws ≡ true
+    bits-fit f y z = go kind f (l .fit z .0)
+      where
+        each : all isEntry (numbersAt 4 count ws) ≡ true
+        each = e .fit y .0
+
+        go : (kind : Kind) → frontFits kind ws ≡ true → levelsFit (thresholdCount kind count) ws ≡ true → queueFits kind ws ≡ true
+        go Kind.Synthesizer f t = rw (f, each)
+        go Kind.Recognizer f t = rw (f, each, t)
+
+    fit-bits : queueFits kind ws ≡ true → (bits < 8589934592) × (level-bits < 4294967296)
+    fit-bits f = (e .below (told kind f .0), l .below (told kind f .1))
+      where
+        told : (kind : Kind) → queueFits kind ws ≡ true → (all isEntry (numbersAt 4 count ws) ≡ true) × (levelsFit (thresholdCount kind count) ws ≡ true)
+        told Kind.Synthesizer f = (both (frontFits Kind.Synthesizer ws) (all isEntry (numbersAt 4 count ws)) f .1, refl)
+        told Kind.Recognizer f =
+            let p = both (entriesFit Kind.Recognizer ws) (levelsFit count ws) f in
+            (both (frontFits Kind.Recognizer ws) (all isEntry (numbersAt 4 count ws)) (p .0) .1, p .1)
+
+    queue-listed : count ≤ 16 → (thresholdCount kind count ≡ 0 → levels ≡ replicate 16 0) → bits < 8589934592 → level-bits < 4294967296
+        → listOf (record { numbers = numbers; thresholds = levels; count = count }) ≡ entriesAt kind count ws
+    queue-listed few unset y z =
+        within-queue (record { numbers = numbers; thresholds = levels; count = count }) few
+        ∙ loaded-entries kind numbers levels few (e .fit y .0) (e .fit y .1) (l .fit z .1) unset
+
+  -- what the counts make of it, `fits` being whether the front does
+  pub count-most : (kind : Kind) (fits : Bool) → fits ≡ frontFits kind ws → cond fits count 0 ≤ most kind
+  count-most kind true e = front-facts kind ws (sym e) .few
+  count-most kind false e = omega arith
+
+  module _ (kind : Kind) (numbers levels : List ℕ) (shown : ℕ) (long : length numbers ≡ 16) (leveled-long : length levels ≡ 16) where
+    abbrev QueueLoaded : Type 0
+    QueueLoaded = LoadsPart (queueFits kind ws) (entriesAt kind count ws) 16 (listOf (record { numbers = numbers; thresholds = levels; count = shown }))
+
+    queue-past : shown ≡ 17 → (queueFits kind ws ≡ true → ⊥) → QueueLoaded
+    queue-past c unfit = rw c (part-unfit unfit (too-many numbers levels long leveled-long))
+
+    module _ {bits level-bits : ℕ} (front : frontFits kind ws ≡ true) (e : Gathered 33 (λ (n : ℕ). n) 4 ws numbers bits count)
+        (l : Gathered 32 (λ (n : ℕ). n) 12 ws levels level-bits (thresholdCount kind count)) (unset : thresholdCount kind count ≡ 0 → levels ≡ replicate 16 0) where
+      queue-front : (y : Bool) → ltb bits 8589934592 ≡ y → (z : Bool) → ltb level-bits 4294967296 ≡ z → shown ≡ cond (y && z) count 17 → QueueLoaded
+      queue-front false p z q c = queue-past c (λ t. false≢true (sym p ∙ lt-ltb bits 8589934592 (fit-bits kind e l t .0)))
+      queue-front true p false q c = queue-past c (λ t. false≢true (sym q ∙ lt-ltb level-bits 4294967296 (fit-bits kind e l t .1)))
+      queue-front true p true q c =
+          let y = ltb-true bits 8589934592 p in
+          let z = ltb-true level-bits 4294967296 q in
+          rw c (part-fits (bits-fit kind e l front y z) (queue-listed kind e l (front-few kind ws front) unset y z))
+
+    pub queue-part : (fits : Bool) → fits ≡ frontFits kind ws → {m bits level-bits : ℕ} {some-fit all-fit : Bool} → m ≡ cond fits count 0
+        → Gathered 33 (λ (n : ℕ). n) 4 ws numbers bits m → Gathered 32 (λ (n : ℕ). n) 12 ws levels level-bits (thresholdCount kind m)
+        → (thresholdCount kind m ≡ 0 → levels ≡ replicate 16 0) → some-fit ≡ (fits && ltb bits 8589934592)
+        → all-fit ≡ (some-fit && ltb level-bits 4294967296) → shown ≡ cond all-fit m 17 → QueueLoaded
+    queue-part false f {m} {bits} {level-bits} n e l unset g h c =
+        queue-past (c ∙ ap (λ (y : Bool). cond y m 17) (h ∙ ap (λ (y : Bool). y && ltb level-bits 4294967296) g)) (queue-unfit kind (sym f))
+    queue-part true f {m} {bits} {level-bits} n e l unset g h c =
+        queue-front (sym f) (rw n at e) (rw n at l) (rw n at unset) (ltb bits 8589934592) refl (ltb level-bits 4294967296) refl
+        (c ∙ ap₂ (λ (y : Bool) (k : ℕ). cond y k 17) (h ∙ ap (λ (y : Bool). y && ltb level-bits 4294967296) g) n)
+
+  -- the same of the name
+  pub size-most : (fits : Bool) → fits ≡ leb (getD ws 3 0) 44 → cond fits (getD ws 3 0) 0 ≤ 44
+  size-most true e = leb-true (getD ws 3 0) 44 (sym e)
+  size-most false e = omega arith
+
+  abbrev named : List ℕ
+  named = numbersAt 20 (getD ws 3 0) ws
+
+  module _ (bytes : List ℕ) (shown : ℕ) (long : length bytes ≡ 44) where
+    abbrev NameLoaded : Type 0
+    NameLoaded = LoadsPart (nameFits ws) named 44 (nameOf (record { bytes = bytes; size = shown }))
+
+    name-past : shown ≡ 45 → (nameFits ws ≡ true → ⊥) → NameLoaded
+    name-past c unfit = rw c (part-unfit unfit (too-long bytes long))
+
+    name-front : leb (getD ws 3 0) 44 ≡ true → {bits : ℕ} → Gathered 8 (λ (n : ℕ). n) 20 ws bytes bits (getD ws 3 0) → (y : Bool) → ltb bits 256 ≡ y
+        → shown ≡ cond y (getD ws 3 0) 45 → NameLoaded
+    name-front f {bits} e false p c =
+        name-past c (λ t. false≢true (sym p ∙ lt-ltb bits 256 (e .below (both (leb (getD ws 3 0) 44) (all isByte named) t .1))))
+    name-front f {bits} e true p c =
+        let fit = e .fit (ltb-true bits 256 p) in
+        rw c (part-fits (rw (f, fit .0)) (within-name (record { bytes = bytes; size = getD ws 3 0 }) (leb-true (getD ws 3 0) 44 f) ∙ fit .1 ∙ map-id named))
+
+    pub name-part : (fits : Bool) → fits ≡ leb (getD ws 3 0) 44 → {m bits : ℕ} {all-fit : Bool} → m ≡ cond fits (getD ws 3 0) 0
+        → Gathered 8 (λ (n : ℕ). n) 20 ws bytes bits m → all-fit ≡ (fits && ltb bits 256) → shown ≡ cond all-fit m 45 → NameLoaded
+    name-part false f {m} n e g c =
+        name-past (c ∙ ap (λ (y : Bool). cond y m 45) g) (λ z. false≢true (f ∙ both (leb (getD ws 3 0) 44) (all isByte named) z .0))
+    name-part true f {m} {bits} n e g c =
+        name-front (sym f) (rw n at e) (ltb bits 256) refl (c ∙ ap₂ (λ (y : Bool) (k : ℕ). cond y k 45) g n)
+
   -- the numbers of a sound channel fit
-  sound-fits : isSound (viewOf ws) ≡ true → (queueFits ws ≡ true) × (nameFits ws ≡ true)
+  sound-fits : isSound (viewOf ws) ≡ true → (queueFits (kindBy named) ws ≡ true) × (nameFits ws ≡ true)
   unfolding viewOf
   sound-fits e = go (stateAt (getD ws 0 0)) refl e
     where
-      go : (o : Option State) → stateAt (getD ws 0 0) ≡ o → isSound (viewAt ws o) ≡ true → (queueFits ws ≡ true) × (nameFits ws ≡ true)
-      go none p e = absurd (false≢true e)
-      go (some state) p e =
-          let f = sound-facts _ e in
+      told : (state : State) → getD ws 0 0 ≤ 4 → thresholdsFit (viewWith ws state) ≡ true → sound (viewWith ws state) ≡ true
+          → (queueFits (kindBy named) ws ≡ true) × (nameFits ws ≡ true)
+      told state within t e =
+          let kind : Kind = kindBy named in
+          let f = sound-facts (viewWith ws state) e in
           let range : firstAbove (lastAt (getD ws 1 0)) ≤ 4294967296 = f .in-range in
           let last : getD ws 1 0 ≤ 4294967296 = omega (arith, range, above-is (getD ws 1 0)) in
-          let few : length (map entryAt (numbersAt 4 (getD ws 2 0) ws)) ≤ 16 = f .few in
-          let count : getD ws 2 0 ≤ 16 = rw (length-map, numbers-count 4 (getD ws 2 0) ws) at few in
-          let short = name-fits (numbersAt 20 (getD ws 3 0) ws) (f .named) in
-          let size : getD ws 3 0 ≤ 44 = rw (numbers-count 20 (getD ws 3 0) ws) at short in
-          let entries : all isEntry (numbersAt 4 (getD ws 2 0) ws) ≡ true = small-entries (numbersAt 4 (getD ws 2 0) ws) (small-by (ids (map entryAt (numbersAt 4 (getD ws 2 0) ws))) (held-small f)) in
-          let bytes : all isByte (numbersAt 20 (getD ws 3 0) ws) ≡ true = all-of isValue isByte value-byte (numbersAt 20 (getD ws 3 0) ws) (S.name-fits (numbersAt 20 (getD ws 3 0) ws) (f .named) .values) in (
-            rw (le-leb (getD ws 0 0) 2 (state-within (getD ws 0 0) state p), le-leb (getD ws 1 0) 4294967296 last, le-leb (getD ws 2 0) 16 count, entries),
+          let few : count ≤ most kind = rw (entries-count count ws kind) at (sound-few (viewWith ws state) e) in
+          let size : getD ws 3 0 ≤ 44 = rw (numbers-count 20 (getD ws 3 0) ws) at (name-fits named (f .named)) in
+          let small : Small (ids (map entryAt (numbersAt 4 count ws))) = rw (entries-ids count ws kind) at (small-by (ids (entriesAt kind count ws)) (held-small f)) in
+          let entries : all isEntry (numbersAt 4 count ws) ≡ true = small-entries (numbersAt 4 count ws) small in
+          let bytes : all isByte named ≡ true = all-of isValue isByte value-byte named (S.name-fits named (f .named) .values) in (
+            queue-fits kind (rw (le-leb (getD ws 0 0) 4 within, le-leb (getD ws 1 0) 4294967296 last, le-leb count (most kind) few, entries)) t,
             rw (le-leb (getD ws 3 0) 44 size, bytes),
           )
 
+      go : (o : Option State) → stateAt (getD ws 0 0) ≡ o → isSound (viewAt ws o) ≡ true → (queueFits (kindBy named) ws ≡ true) × (nameFits ws ≡ true)
+      go none p = λ e. absurd (false≢true e)
+      go (some state) p =
+          choose (λ (o : Option View). isSound o ≡ true → (queueFits (kindBy named) ws ≡ true) × (nameFits ws ≡ true)) (thresholdsFit (viewWith ws state))
+          (λ t e. told state (state-within (getD ws 0 0) state p) t e)
+          (λ t e. absurd (false≢true e))
+
   -- the parts are those of the channel that the numbers are, or numbers and channel are not sound
   module _ (last : LastId) (c : Channel)
-      (q : LoadsPart (queueFits ws) (map entryAt (numbersAt 4 (getD ws 2 0) ws)) 16 (listOf (c .queue)))
-      (n : LoadsPart (nameFits ws) (numbersAt 20 (getD ws 3 0) ws) 44 (nameOf (c .name)))
-      (s : getD ws 0 0 ≤ 2 → stateAt (getD ws 0 0) ≡ some (c .state)) (l : getD ws 1 0 ≤ 4294967296 → last ≡ lastAt (getD ws 1 0)) where
+      (n : LoadsPart (nameFits ws) named 44 (nameOf (c .name)))
+      (q : LoadsPart (queueFits (kindBy (nameOf (c .name))) ws) (entriesAt (kindBy (nameOf (c .name))) count ws) 16 (listOf (c .queue)))
+      (s : getD ws 0 0 ≤ 4 → stateAt (getD ws 0 0) ≡ some (c .state)) (l : getD ws 1 0 ≤ 4294967296 → last ≡ lastAt (getD ws 1 0)) where
     neither : isSound (viewOf ws) ≡ false → sound (view last c) ≡ false → Loads ws (record { last = last; channel = c })
     neither e f = record { soundness = e ∙ sym f; same = λ z. absurd (false≢true (sym e ∙ z)) }
 
     pub loads : Loads ws (record { last = last; channel = c })
     unfolding viewOf
-    loads = go (queueFits ws) refl (nameFits ws) refl
+    loads = go (nameFits ws) refl (queueFits (kindBy named) ws) refl
       where
-        go : (a : Bool) → queueFits ws ≡ a → (b : Bool) → nameFits ws ≡ b → Loads ws (record { last = last; channel = c })
-        go false e b f = neither (refuted (isSound (viewOf ws)) (λ z. false≢true (sym e ∙ sound-fits z .0)))
-            (refuted (sound (view last c)) (λ z. omega (arith, sound-facts (view last c) z .few, q .unfit e)))
-        go true e false f = neither (refuted (isSound (viewOf ws)) (λ z. false≢true (sym f ∙ sound-fits z .1)))
+        go : (a : Bool) → nameFits ws ≡ a → (b : Bool) → queueFits (kindBy named) ws ≡ b → Loads ws (record { last = last; channel = c })
+        go false f b e = neither (refuted (isSound (viewOf ws)) (λ z. false≢true (sym f ∙ sound-fits z .1)))
             (refuted (sound (view last c)) (λ z. omega (arith, name-fits (nameOf (c .name)) (sound-facts (view last c) z .named), n .unfit f)))
-        go true e true f =
-            let front = both (frontFits ws) (all isEntry (numbersAt 4 (getD ws 2 0) ws)) e .0 in
-            let two = both (leb (getD ws 0 0) 2 && leb (getD ws 1 0) 4294967296) (leb (getD ws 2 0) 16) front .0 in
-            let each = both (leb (getD ws 0 0) 2) (leb (getD ws 1 0) 4294967296) two in
-            let state = s (leb-true (getD ws 0 0) 2 (each .0)) in
-            let seen-last = l (leb-true (getD ws 1 0) 4294967296 (each .1)) in
+        go true f false e =
+            let many : 16 < length (listOf (c .queue)) = rw (n .fit f) at q .unfit e in
+            neither (refuted (isSound (viewOf ws)) (λ z. false≢true (sym e ∙ sound-fits z .0)))
+            (refuted (sound (view last c)) (λ z. omega (arith, sound-facts (view last c) z .few, most-16 (kind (view last c)), many)))
+        go true f true e =
+            let p = fits-entries (kindBy named) e in
+            let front = front-facts (kindBy named) ws (both (frontFits (kindBy named) ws) (all isEntry (numbersAt 4 count ws)) (p .0) .0) in
+            let listed : listOf (c .queue) ≡ entriesAt (kindBy named) count ws = rw (n .fit f) at q .fit e in
+            let same : view last c ≡ viewWith ws (c .state) = λ i. record { name = n .fit f i; state = c .state; queue = listed i; last = l (front .last) i } in
             let is : viewOf ws ≡ some (view last c) =
-            ap (viewAt ws) state
-            ∙ rw (n .fit f, q .fit e, seen-last) in
+            ap (viewAt ws) (s (front .state))
+            ∙ fit-some (viewWith ws (c .state)) (p .1)
+            ∙ ap some (sym same) in
             record { soundness = ap isSound is; same = λ z. is }

@@ -1,14 +1,15 @@
 // A channel loaded from the 64 numbers that a C caller keeps, whatever they are. include/klarvesimo.h is the manual of
 // their places. Numbers that no sound channel has become a queue of 17 or a name of 45 bytes, so a channel that is not
-// sound: there is no flag to look at.
+// sound: there is no flag to look at. The name comes first: its kind says what the queue's numbers are.
 ghost use mathlib.Core.Path.{_≡_};
+ghost use mathlib.Core.Bool.{_&&_, cond};
 ghost use mathlib.Core.Option.{some};
-ghost use mathlib.Core.List.{map};
-ghost use Prim.Native.Nat.{_/_, _≤_, _<_};
+ghost use Prim.Native.Nat.{_≤_, _<_};
+ghost use lib.Dec.{ltb};
 ghost use lib.ListN.{getD};
 ghost use Rattle.queue.specs.Queue.{listOf};
 ghost use Rattle.channelnames.specs.Names.{nameOf};
-ghost use Rattle.channelnumbers.specs.Numbers.{stateAt, lastAt, entryAt, numbersAt};
+ghost use Rattle.channelnumbers.specs.Numbers.{stateAt, lastAt, numbersAt, entriesAt};
 ghost use Rattle.loading.specs.Loading.{Loads};
 ghost use Rattle.loading.specs.Steps.{frontFits, queueFits, nameFits, LoadsPart};
 
@@ -23,31 +24,29 @@ const TOO_MANY: usize = queue::MOST + 1;
 
 const TOO_LONG: usize = channelnames::LONGEST + 1;
 
-// The entry with a number, below 2^33; a greater one is no entry's.
-fn entry_at(n: u64) -> synth::Entry
-    ensures { λ r. ⌜ (n < 8589934592 → r ≡ entryAt n) ⌝ }
+// The threshold and the byte with a number, below 2^32 and below 2^8; a greater one is none's.
+fn threshold_at(n: u64) -> u32
+    ensures { λ r. ⌜ (n < 4294967296 → r ≡ n) ⌝ }
 {
-    synth::Entry {
-        id: (n / 2 % 4294967296) as u32,
-        kill: n % 2 == 1,
-    }
+    (n % 4294967296) as u32
 }
 
-// 0 for the numbers of entries alone, so that a loop can sum it up and needs no test.
-fn past_entries(n: u64) -> u64
-    ensures { λ r. ⌜ (r ≡ n / 8589934592) × (r ≤ 2147483647) ⌝ }
+fn byte_at(n: u64) -> u8
+    ensures { λ r. ⌜ (n < 256 → r ≡ n) ⌝ }
 {
-    n / 8589934592
+    (n % 256) as u8
 }
 
-// The state with a number, 0 to 2; a greater one is no state's.
+// The state with a number, 0 to 4; a greater one is no state's.
 fn state_at(n: u64) -> synth::State
-    ensures { λ r. ⌜ (n ≤ 2 → stateAt n ≡ some r) ⌝ }
+    ensures { λ r. ⌜ (n ≤ 4 → stateAt n ≡ some r) ⌝ }
 {
     match n {
         0 => synth::State::Idle,
         1 => synth::State::Speaking,
-        _ => synth::State::Paused,
+        2 => synth::State::Paused,
+        3 => synth::State::Recognizing,
+        _ => synth::State::Recognized,
     }
 }
 
@@ -62,80 +61,113 @@ fn last_at(n: u64) -> synth::LastId
 }
 
 // Whether state, last id and count are within their ranges.
-fn front_fits(ws: &[u64; 64]) -> bool
-    ensures { λ r. ⌜ r ≡ frontFits (now (ws .entry)) ⌝ }
+fn front_fits(kind: answer::Kind, ws: &[u64; 64]) -> bool
+    ensures { λ r. ⌜ r ≡ frontFits kind (now (ws .entry)) ⌝ }
 {
-    if 2 < ws[0] {
+    if 4 < ws[0] {
         return false;
     }
     if 4294967296 < ws[1] {
         return false;
     }
-    ws[2] <= queue::MOST as u64
+    ws[2] <= queue::most(kind) as u64
 }
 
-fn load_queue(ws: &[u64; 64]) -> queue::Queue
-    ensures { λ r. ⌜ LoadsPart (queueFits (now (ws .entry)))
-        (map entryAt (numbersAt 4 (getD (now (ws .entry)) 2 0) (now (ws .entry)))) 16 (listOf r) ⌝ }
+// The count of a part whose count fits; 0 for one that does not.
+fn count_where(fits: bool, n: u64) -> usize
+    ensures { λ r. ⌜ r ≡ cond fits n 0 ⌝ }
 {
-    let mut entries = [queue::NO_ENTRY; queue::MOST];
-    if !front_fits(ws) {
-        return queue::Queue {
-            entries,
-            count: TOO_MANY,
-        };
+    if fits {
+        return n as usize;
     }
-    let count = ws[2] as usize;
-    let mut over: u64 = 0;
+    0
+}
+
+// Whether a part fits whose numbers have these bits among them.
+fn fits_below(fits: bool, bits: u64, end: u64) -> bool
+    ensures { λ r. ⌜ r ≡ (fits && ltb bits end) ⌝ }
+{
+    if fits {
+        return bits < end;
+    }
+    false
+}
+
+// The count of a part that fits; `past` for one that does not.
+fn count_loaded(fits: bool, n: usize, past: usize) -> usize
+    ensures { λ r. ⌜ r ≡ cond fits n past ⌝ }
+{
+    if fits {
+        return n;
+    }
+    past
+}
+
+// Numbers are judged by all their bits at the end, so that no loop has a test, and the queue is built once: each place
+// where one is built costs a copy. The loop over the thresholds has no turn on a synthesizer.
+fn load_queue(kind: answer::Kind, ws: &[u64; 64]) -> queue::Queue
+    ensures { λ r. ⌜ LoadsPart (queueFits kind (now (ws .entry)))
+        (entriesAt kind (getD (now (ws .entry)) 2 0) (now (ws .entry))) 16 (listOf r) ⌝ }
+{
+    let fits = front_fits(kind, ws);
+    let count = count_where(fits, ws[2]);
+    let mut numbers = [0u64; queue::MOST];
+    let mut bits: u64 = 0;
     let mut i: usize = 0;
     while i < count {
         let n = ws[channelnumbers::QUEUE_AT + i];
-        over = over + past_entries(n);
-        entries[i] = entry_at(n);
+        bits = bits | n;
+        numbers[i] = n;
         i += 1;
     }
-    if over != 0 {
-        return queue::Queue {
-            entries,
-            count: TOO_MANY,
-        };
+    let entries_fit = fits_below(fits, bits, 8589934592);
+    let levels = channelnumbers::threshold_count(kind, count);
+    let mut thresholds = [0u32; queue::MOST];
+    let mut level_bits: u64 = 0;
+    let mut j: usize = 0;
+    while j < levels {
+        let n = ws[channelnumbers::THRESHOLDS_AT + j];
+        level_bits = level_bits | n;
+        thresholds[j] = threshold_at(n);
+        j += 1;
     }
-    queue::Queue { entries, count }
+    let all_fit = fits_below(entries_fit, level_bits, 4294967296);
+    queue::Queue {
+        numbers,
+        thresholds,
+        count: count_loaded(all_fit, count, TOO_MANY),
+    }
 }
 
 fn load_name(ws: &[u64; 64]) -> channelnames::Name
     ensures { λ r. ⌜ LoadsPart (nameFits (now (ws .entry)))
         (numbersAt 20 (getD (now (ws .entry)) 3 0) (now (ws .entry))) 44 (nameOf r) ⌝ }
 {
+    let fits = ws[3] <= channelnames::LONGEST as u64;
+    let size = count_where(fits, ws[3]);
     let mut bytes = [0u8; channelnames::LONGEST];
-    if (channelnames::LONGEST as u64) < ws[3] {
-        return channelnames::Name {
-            bytes,
-            size: TOO_LONG,
-        };
-    }
-    let size = ws[3] as usize;
+    let mut bits: u64 = 0;
     let mut i: usize = 0;
     while i < size {
-        let b = ws[channelnumbers::NAME_AT + i];
-        if 255 < b {
-            return channelnames::Name {
-                bytes,
-                size: TOO_LONG,
-            };
-        }
-        bytes[i] = b as u8;
+        let n = ws[channelnumbers::NAME_AT + i];
+        bits = bits | n;
+        bytes[i] = byte_at(n);
         i += 1;
     }
-    channelnames::Name { bytes, size }
+    let all_fit = fits_below(fits, bits, 256);
+    channelnames::Name {
+        bytes,
+        size: count_loaded(all_fit, size, TOO_LONG),
+    }
 }
 
 // The channel that the numbers are, or one that is not sound. Those past the count and past the size are not looked at.
 pub fn load(ws: &[u64; 64]) -> Loaded
     ensures { λ r. ⌜ Loads (now (ws .entry)) r ⌝ }
 {
-    let queue = load_queue(ws);
     let name = load_name(ws);
+    let kind = channelnames::kind_by(name);
+    let queue = load_queue(kind, ws);
     let state = state_at(ws[0]);
     let last = last_at(ws[1]);
     let channel = channel::Channel { name, state, queue };

@@ -1,6 +1,6 @@
--- Which method a name is, by its length and one comparison: of the six only SPEAK and PAUSE are equally long.
+-- Which method a name is, by its length and one comparison: only SPEAK and PAUSE are equally long.
 -- Assumes nothing.
-use mathlib.Core.Path.{_≡_, refl, sym, _∙_}
+use mathlib.Core.Path.{_≡_, refl, sym, ap, _∙_}
 use mathlib.Core.Bool.{true, false}
 use mathlib.Core.List.{List}
 use Prim.Native.Nat.{ℕ}
@@ -9,9 +9,12 @@ use lib.ListN.{length}
 use borrow.Author.Tests.{eqb-false}
 use Rattle.lists.specs.Lists.{same}
 use Rattle.octets.proofs.Texts.{same-lengths}
+use Rattle.answer.specs.declared.Kind.{Kind}
+use Rattle.synth.specs.Kinds.{methodIn}
 use Rattle.synth.specs.Request.{methodText, orElse, methodOf}
 use Rattle.synth.specs.declared.Method.{Method}
 use Rattle.synth.specs.declared.Method.the-variants.{Speak, Stop, Pause, Resume, Control, BargeInOccurred, Unknown}
+use Rattle.synth.specs.declared.Method.the-variants.{Recognize, StartInputTimers}
 
 module _ (n : List ℕ) where
   -- the method m, where n is its name
@@ -27,27 +30,99 @@ module _ (n : List ℕ) where
 
   pub no-speak : length n ≡ 5 → same n (methodText Speak) ≡ false → orNone Pause ≡ methodOf n
   unfolding methodOf
-  no-speak l e = simp (e, other 5 l Stop refl, other 5 l Resume refl, other 5 l Control refl, other 5 l BargeInOccurred refl)
+  no-speak l e =
+      simp (
+        e,
+        other 5 l Stop refl,
+        other 5 l Resume refl,
+        other 5 l Control refl,
+        other 5 l BargeInOccurred refl,
+        other 5 l Recognize refl,
+        other 5 l StartInputTimers refl,
+      )
 
   pub four : length n ≡ 4 → orNone Stop ≡ methodOf n
   unfolding methodOf
-  four l = simp (other 4 l Speak refl, other 4 l Pause refl, other 4 l Resume refl, other 4 l Control refl, other 4 l BargeInOccurred refl)
+  four l =
+      simp (
+        other 4 l Speak refl,
+        other 4 l Pause refl,
+        other 4 l Resume refl,
+        other 4 l Control refl,
+        other 4 l BargeInOccurred refl,
+        other 4 l Recognize refl,
+        other 4 l StartInputTimers refl,
+      )
 
   pub six : length n ≡ 6 → orNone Resume ≡ methodOf n
   unfolding methodOf
-  six l = simp (other 6 l Speak refl, other 6 l Stop refl, other 6 l Pause refl, other 6 l Control refl, other 6 l BargeInOccurred refl)
+  six l =
+      simp (
+        other 6 l Speak refl,
+        other 6 l Stop refl,
+        other 6 l Pause refl,
+        other 6 l Control refl,
+        other 6 l BargeInOccurred refl,
+        other 6 l Recognize refl,
+        other 6 l StartInputTimers refl,
+      )
 
   pub seven : length n ≡ 7 → orNone Control ≡ methodOf n
   unfolding methodOf
-  seven l = simp (other 7 l Speak refl, other 7 l Stop refl, other 7 l Pause refl, other 7 l Resume refl, other 7 l BargeInOccurred refl)
+  seven l =
+      simp (
+        other 7 l Speak refl,
+        other 7 l Stop refl,
+        other 7 l Pause refl,
+        other 7 l Resume refl,
+        other 7 l BargeInOccurred refl,
+        other 7 l Recognize refl,
+        other 7 l StartInputTimers refl,
+      )
 
   pub seventeen : length n ≡ 17 → orNone BargeInOccurred ≡ methodOf n
   unfolding methodOf
-  seventeen l = simp (other 17 l Speak refl, other 17 l Stop refl, other 17 l Pause refl, other 17 l Resume refl, other 17 l Control refl)
+  seventeen l =
+      simp (
+        other 17 l Speak refl,
+        other 17 l Stop refl,
+        other 17 l Pause refl,
+        other 17 l Resume refl,
+        other 17 l Control refl,
+        other 17 l Recognize refl,
+        other 17 l StartInputTimers refl,
+      )
 
-  pub none : (length n ≡ 4 → ⊥) → (length n ≡ 5 → ⊥) → (length n ≡ 6 → ⊥) → (length n ≡ 7 → ⊥) → (length n ≡ 17 → ⊥) → Unknown ≡ methodOf n
+  pub nine : length n ≡ 9 → orNone Recognize ≡ methodOf n
   unfolding methodOf
-  none h4 h5 h6 h7 h17 =
+  nine l =
+      simp (
+        other 9 l Speak refl,
+        other 9 l Stop refl,
+        other 9 l Pause refl,
+        other 9 l Resume refl,
+        other 9 l Control refl,
+        other 9 l BargeInOccurred refl,
+        other 9 l StartInputTimers refl,
+      )
+
+  pub eighteen : length n ≡ 18 → orNone StartInputTimers ≡ methodOf n
+  unfolding methodOf
+  eighteen l =
+      simp (
+        other 18 l Speak refl,
+        other 18 l Stop refl,
+        other 18 l Pause refl,
+        other 18 l Resume refl,
+        other 18 l Control refl,
+        other 18 l BargeInOccurred refl,
+        other 18 l Recognize refl,
+      )
+
+  pub none : (length n ≡ 4 → ⊥) → (length n ≡ 5 → ⊥) → (length n ≡ 6 → ⊥) → (length n ≡ 7 → ⊥)
+      → (length n ≡ 9 → ⊥) → (length n ≡ 17 → ⊥) → (length n ≡ 18 → ⊥) → Unknown ≡ methodOf n
+  unfolding methodOf
+  none h4 h5 h6 h7 h9 h17 h18 =
       simp (
         same-lengths n (methodText Speak) h5,
         same-lengths n (methodText Stop) h4,
@@ -55,4 +130,10 @@ module _ (n : List ℕ) where
         same-lengths n (methodText Resume) h6,
         same-lengths n (methodText Control) h7,
         same-lengths n (methodText BargeInOccurred) h17,
+        same-lengths n (methodText Recognize) h9,
+        same-lengths n (methodText StartInputTimers) h18,
       )
+
+-- a method that a kind has
+pub has : (kind : Kind) (m n : Method) → m ≡ n → n ≡ methodIn kind n → m ≡ methodIn kind m
+has kind m n e h = e ∙ h ∙ ap (methodIn kind) (sym e)

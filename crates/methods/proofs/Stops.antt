@@ -79,11 +79,11 @@ module _ (state : State) (q : Queue) (v : View) (r : Request) where
 
   module _ {ignored : Bool} {o : Outcome} {d : S.Outcome} (told : ignored ≡ ignoresAny r) where
     ended : (mask : ℕ) {gone rest : List Entry} → EndsBy mask state (listOf q) (r .id) ignored o → marked true mask 0 (listOf q) ≡ gone
-        → marked false mask 0 (listOf q) ≡ rest → d ≡ S.succeeded w r Complete (ids gone) (whileAny state rest) rest → Makes w o d
+        → marked false mask 0 (listOf q) ≡ rest → d ≡ S.succeeded w r Complete (ids gone) (whileAny Idle state rest) rest → Makes w o d
     ended mask {gone} {rest} e g k f =
         let left : listOf (o .queue) ≡ rest = e .ends .left ∙ k in
-        makes-success w r (whileAny state (listOf (o .queue))) (o .queue) told Complete (o .listed) (e .answers) (e .ends .lists) left
-        (f ∙ sym (λ z. S.succeeded w r Complete (ids (g z)) (whileAny state (left z)) rest))
+        makes-success w r (whileAny Idle state (listOf (o .queue))) (o .queue) told Complete (o .listed) (e .answers) (e .ends .lists) left
+        (f ∙ sym (λ z. S.succeeded w r Complete (ids (g z)) (whileAny Idle state (left z)) rest))
 
     -- those named end, the others stay
     pub named-end : (list : List ℕ) (mask : ℕ) → mask ≡ bitsFrom 0 (idsOf list) (ids (listOf q)) → EndsBy mask state (listOf q) (r .id) ignored o

@@ -1,5 +1,5 @@
 // What a request does that passed judgement 5, method by method: document 01, judgements 6 to 11 and "States and
-// queue".
+// queue", and document 02, K1.
 ghost use mathlib.Core.Path.{_≡_};
 ghost use mathlib.Core.Option.{some};
 ghost use Prim.Native.Nat.{_≤_};
@@ -9,7 +9,7 @@ ghost use Rattle.synth.specs.Request.{acting, ignoresAny};
 ghost use Rattle.synth.specs.declared.Method.{Method};
 ghost use Rattle.queue.specs.Queue.{listOf};
 ghost use Rattle.request.specs.Telling.{Tells};
-ghost use Rattle.outcomes.specs.Outcomes.{Acts};
+ghost use Rattle.outcomes.specs.Outcomes.{Acts, ActsOn};
 ghost use Rattle.methods.specs.Ending.{EndsBy};
 
 // Those that the mask marks end and are listed; the next becomes active in the same state.
@@ -18,7 +18,7 @@ fn end(state: synth::State, q: queue::Queue, mask: u64, id: u32, ignored: bool) 
 {
     let ended = queue::end(q, mask);
     let rest = ended.queue;
-    let next = queue::while_any(state, rest);
+    let next = queue::while_any(synth::State::Idle, state, rest);
     outcomes::succeeded(id, ignored, ended.listed, next, rest)
 }
 
@@ -79,7 +79,7 @@ fn barge_in(state: synth::State, q: queue::Queue, id: u32, ignored: bool) -> out
 fn pause(state: synth::State, q: queue::Queue, id: u32, ignored: bool) -> outcomes::Outcome
     ensures { λ o. ⌜ Acts state q Method.Pause id (λ r. ignored ≡ ignoresAny r) o ⌝ }
 {
-    if queue::is_idle(state) {
+    if !queue::is_busy(state) {
         return outcomes::failed(state, q, id, answer::Status::not_valid_in_state());
     }
     outcomes::succeeded(id, ignored, queue::list_active(q), synth::State::Paused, q)
@@ -88,7 +88,7 @@ fn pause(state: synth::State, q: queue::Queue, id: u32, ignored: bool) -> outcom
 fn control(state: synth::State, q: queue::Queue, id: u32, ignored: bool) -> outcomes::Outcome
     ensures { λ o. ⌜ Acts state q Method.Control id (λ r. ignored ≡ ignoresAny r) o ⌝ }
 {
-    if queue::is_idle(state) {
+    if !queue::is_busy(state) {
         return outcomes::failed(state, q, id, answer::Status::not_valid_in_state());
     }
     outcomes::succeeded(id, ignored, queue::list_active(q), state, q)
@@ -98,11 +98,10 @@ fn control(state: synth::State, q: queue::Queue, id: u32, ignored: bool) -> outc
 fn resume(state: synth::State, q: queue::Queue, id: u32, ignored: bool) -> outcomes::Outcome
     ensures { λ o. ⌜ Acts state q Method.Resume id (λ r. ignored ≡ ignoresAny r) o ⌝ }
 {
+    if !queue::is_busy(state) {
+        return outcomes::failed(state, q, id, answer::Status::not_valid_in_state());
+    }
     match state {
-        synth::State::Idle => {
-            outcomes::failed(state, q, id, answer::Status::not_valid_in_state())
-        }
-        synth::State::Speaking => { outcomes::succeeded(id, ignored, queue::list_none(), state, q) }
         synth::State::Paused => outcomes::succeeded(
             id,
             ignored,
@@ -110,13 +109,25 @@ fn resume(state: synth::State, q: queue::Queue, id: u32, ignored: bool) -> outco
             synth::State::Speaking,
             q,
         ),
+        _ => outcomes::succeeded(id, ignored, queue::list_none(), state, q),
     }
 }
 
+// START-INPUT-TIMERS: judgement 8; no change and no list.
+fn start_timers(state: synth::State, q: queue::Queue, id: u32, ignored: bool) -> outcomes::Outcome
+    ensures { λ o. ⌜ Acts state q Method.StartInputTimers id (λ r. ignored ≡ ignoresAny r) o ⌝ }
+{
+    if !queue::is_busy(state) {
+        return outcomes::failed(state, q, id, answer::Status::not_valid_in_state());
+    }
+    outcomes::succeeded(id, ignored, queue::list_none(), state, q)
+}
+
 // The request `id` with the method `m`, whose fields in the frame `f` are those of the header `h`: judgements 6 to 11,
-// on a channel with this state and queue. An array holds the ids of 16, so of a queue of more, which is not sound,
+// on a channel of this kind, with this state and queue. An array holds the ids of 16, so of a queue of more, which is not sound,
 // nothing is said.
 pub fn act(
+    kind: answer::Kind,
     state: synth::State,
     q: queue::Queue,
     f: &[u8],
@@ -124,11 +135,11 @@ pub fn act(
     m: synth::Method,
     id: u32,
 ) -> outcomes::Outcome
-    ensures { λ o. ⌜ (length (listOf q) ≤ 16 → Acts state q m id (λ r. Tells (now (f .entry)) h (r .fields)) o) ⌝ }
+    ensures { λ o. ⌜ (length (listOf q) ≤ 16 → ActsOn kind state q m id (λ r. Tells (now (f .entry)) h (r .fields)) o) ⌝ }
 {
     let ignored = values::meets(h.mask, names::IGNORED_ELSEWHERE);
     match m {
-        synth::Method::Speak => speak::speak(state, q, f, h, id),
+        synth::Method::Speak => speak::speak(kind, state, q, f, h, id),
         synth::Method::Stop => stop(state, q, f, h, id),
         synth::Method::Pause => pause(state, q, id, ignored),
         synth::Method::Resume => resume(state, q, id, ignored),
@@ -137,5 +148,7 @@ pub fn act(
         synth::Method::Unknown => {
             outcomes::failed(state, q, id, answer::Status::method_not_allowed())
         }
+        synth::Method::Recognize => speak::recognize(kind, state, q, f, h, id),
+        synth::Method::StartInputTimers => start_timers(state, q, id, ignored),
     }
 }

@@ -10,7 +10,9 @@ use Rattle.lists.specs.Lists.{bit}
 use Rattle.lists.proofs.Masks.{set-any, test-any}
 use Rattle.message.specs.Known.{indexOf, is, isKnown}
 use Rattle.message.specs.declared.Known.{Known}
-use Rattle.message.specs.declared.Known.the-variants.{ChannelIdentifier, ContentLength, ContentType, ActiveRequestIdList, KillOnBargeIn, ProxySyncId, LoggingTag, Unknown}
+use Rattle.message.specs.declared.Known.the-variants.{ChannelIdentifier, ContentLength, ContentType}
+use Rattle.message.specs.declared.Known.the-variants.{ActiveRequestIdList, KillOnBargeIn, ProxySyncId, LoggingTag}
+use Rattle.message.specs.declared.Known.the-variants.{Unknown, ConfidenceThreshold}
 use Rattle.names.specs.Names.{bitOf}
 use Rattle.names.specs.Steps.{knownBit, mayCome}
 
@@ -23,6 +25,7 @@ index-small KillOnBargeIn = lit< tt
 index-small ProxySyncId = lit< tt
 index-small LoggingTag = lit< tt
 index-small Unknown = lit< tt
+index-small ConfidenceThreshold = lit< tt
 
 -- a known name's bit is tested by itself, another name's never
 pub test-name : (m : ℕ) (k : Known) → eqb (bitAnd m (knownBit k)) 0 ≡ not (isKnown k && bit m (indexOf k))
@@ -34,14 +37,17 @@ test-name m KillOnBargeIn = test-any m 4
 test-name m ProxySyncId = test-any m 5
 test-name m LoggingTag = test-any m 6
 test-name m Unknown = ap (λ n. eqb n 0) (and-zero-r m)
+test-name m ConfidenceThreshold = test-any m 8
 
 pub set-name : (m : ℕ) (j k : Known) → bit (bitOr m (bitOf j)) (indexOf k) ≡ (is k j || bit m (indexOf k))
 set-name m j k = set-any m (indexOf j) (indexOf k)
 
 -- a field with the name k may come after n others
 module _ (n mask : ℕ) (k : Known) where
-  pub may-by : n < 32 → (b : ℕ) → b ≡ bitOf k → eqb (bitAnd mask (bitAnd b 127)) 0 ≡ mayCome n mask k
-  may-by h b e = ap (λ b. eqb (bitAnd mask (bitAnd b 127)) 0) e ∙ sym (ap (λ t. t && eqb (bitAnd mask (knownBit k)) 0) (lt-ltb n 32 h))
+  pub may-by : n < 32 → (b : ℕ) → b ≡ bitOf k → eqb (bitAnd mask (bitAnd b 383)) 0 ≡ mayCome n mask k
+  may-by h b e =
+      ap (λ b. eqb (bitAnd mask (bitAnd b 383)) 0) e
+      ∙ sym (ap (λ t. t && eqb (bitAnd mask (knownBit k)) 0) (lt-ltb n 32 h))
 
   pub may-not : 32 ≤ n → false ≡ mayCome n mask k
   may-not h = sym (ap (λ t. t && eqb (bitAnd mask (knownBit k)) 0) (le-ltb n 32 h))

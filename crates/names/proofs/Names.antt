@@ -1,4 +1,4 @@
--- Which known name a text is, by its length and one comparison: no two of the seven are equally long.
+-- Which known name a text is, by its length and one comparison: no two of the eight are equally long.
 -- Assumes nothing.
 use mathlib.Core.Path.{_≡_, refl, sym, _∙_}
 use mathlib.Core.Bool.{Bool, true, false}
@@ -12,7 +12,9 @@ use Rattle.octets.specs.Octets.{bytes, lower}
 use Rattle.octets.proofs.Texts.{lower-lengths}
 use Rattle.message.specs.Known.{orElse, knownOf}
 use Rattle.message.specs.declared.Known.{Known}
-use Rattle.message.specs.declared.Known.the-variants.{ChannelIdentifier, ContentLength, ContentType, ActiveRequestIdList, KillOnBargeIn, ProxySyncId, LoggingTag, Unknown}
+use Rattle.message.specs.declared.Known.the-variants.{ChannelIdentifier, ContentLength, ContentType}
+use Rattle.message.specs.declared.Known.the-variants.{ActiveRequestIdList, KillOnBargeIn, ProxySyncId, LoggingTag}
+use Rattle.message.specs.declared.Known.the-variants.{Unknown, ConfidenceThreshold}
 
 -- the names in small letters, in the order of the definition
 abbrev name : Known → List ℕ
@@ -24,6 +26,7 @@ name KillOnBargeIn = bytes "kill-on-barge-in"
 name ProxySyncId = bytes "proxy-sync-id"
 name LoggingTag = bytes "logging-tag"
 name Unknown = bytes ""
+name ConfidenceThreshold = bytes "confidence-threshold"
 
 either : (b : Bool) → Unknown ≡ orElse b Unknown Unknown
 either true = refl
@@ -47,6 +50,7 @@ module _ (n : List ℕ) where
         other 18 e KillOnBargeIn refl,
         other 18 e ProxySyncId refl,
         other 18 e LoggingTag refl,
+        other 18 e ConfidenceThreshold refl,
       )
   known-by ContentLength e =
       simp (
@@ -56,6 +60,7 @@ module _ (n : List ℕ) where
         other 14 e KillOnBargeIn refl,
         other 14 e ProxySyncId refl,
         other 14 e LoggingTag refl,
+        other 14 e ConfidenceThreshold refl,
       )
   known-by ContentType e =
       simp (
@@ -65,6 +70,7 @@ module _ (n : List ℕ) where
         other 12 e KillOnBargeIn refl,
         other 12 e ProxySyncId refl,
         other 12 e LoggingTag refl,
+        other 12 e ConfidenceThreshold refl,
       )
   known-by ActiveRequestIdList e =
       simp (
@@ -74,6 +80,7 @@ module _ (n : List ℕ) where
         other 22 e KillOnBargeIn refl,
         other 22 e ProxySyncId refl,
         other 22 e LoggingTag refl,
+        other 22 e ConfidenceThreshold refl,
       )
   known-by KillOnBargeIn e =
       simp (
@@ -83,6 +90,7 @@ module _ (n : List ℕ) where
         other 16 e ActiveRequestIdList refl,
         other 16 e ProxySyncId refl,
         other 16 e LoggingTag refl,
+        other 16 e ConfidenceThreshold refl,
       )
   known-by ProxySyncId e =
       simp (
@@ -92,6 +100,7 @@ module _ (n : List ℕ) where
         other 13 e ActiveRequestIdList refl,
         other 13 e KillOnBargeIn refl,
         other 13 e LoggingTag refl,
+        other 13 e ConfidenceThreshold refl,
       )
   known-by LoggingTag e =
       simp (
@@ -101,6 +110,7 @@ module _ (n : List ℕ) where
         other 11 e ActiveRequestIdList refl,
         other 11 e KillOnBargeIn refl,
         other 11 e ProxySyncId refl,
+        other 11 e ConfidenceThreshold refl,
       )
   known-by Unknown e =
       simp (
@@ -111,13 +121,24 @@ module _ (n : List ℕ) where
         other 0 e KillOnBargeIn refl,
         other 0 e ProxySyncId refl,
         other 0 e LoggingTag refl,
+        other 0 e ConfidenceThreshold refl,
       )
       (either (same (lower n) []))
+  known-by ConfidenceThreshold e =
+      simp (
+        other 20 e ChannelIdentifier refl,
+        other 20 e ContentLength refl,
+        other 20 e ContentType refl,
+        other 20 e ActiveRequestIdList refl,
+        other 20 e KillOnBargeIn refl,
+        other 20 e ProxySyncId refl,
+        other 20 e LoggingTag refl,
+      )
 
-  pub known-none : (length n ≡ 11 → ⊥) → (length n ≡ 12 → ⊥) → (length n ≡ 13 → ⊥) → (length n ≡ 14 → ⊥) → (length n ≡ 16 → ⊥) → (length n ≡ 18 → ⊥)
-      → (length n ≡ 22 → ⊥) → knownOf n ≡ Unknown
+  pub known-none : (length n ≡ 11 → ⊥) → (length n ≡ 12 → ⊥) → (length n ≡ 13 → ⊥) → (length n ≡ 14 → ⊥)
+      → (length n ≡ 16 → ⊥) → (length n ≡ 18 → ⊥) → (length n ≡ 20 → ⊥) → (length n ≡ 22 → ⊥) → knownOf n ≡ Unknown
   unfolding knownOf
-  known-none h11 h12 h13 h14 h16 h18 h22 =
+  known-none h11 h12 h13 h14 h16 h18 h20 h22 =
       simp (
         lower-lengths n (name ChannelIdentifier) h18,
         lower-lengths n (name ContentLength) h14,
@@ -126,4 +147,5 @@ module _ (n : List ℕ) where
         lower-lengths n (name KillOnBargeIn) h16,
         lower-lengths n (name ProxySyncId) h13,
         lower-lengths n (name LoggingTag) h11,
+        lower-lengths n (name ConfidenceThreshold) h20,
       )

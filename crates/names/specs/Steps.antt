@@ -8,7 +8,7 @@ use Rattle.names.specs.Names.{bitOf}
 
 -- a known name's bit, none for another name
 abbrev pub knownBit : Known → ℕ
-knownBit k = bitAnd (bitOf k) 127
+knownBit k = bitAnd (bitOf k) 383
 
 -- after n fields there may be one more, and its name k, if it is known, did not come yet
 abbrev pub mayCome : ℕ → ℕ → Known → Bool

@@ -1,4 +1,5 @@
-// Known field names and the mask of those that came: document 01, "Fields" and judgement 2.
+// Known field names and the mask of those that came: document 01, "Fields" and judgement 2, and
+// document 02, K1.
 ghost use mathlib.Core.Path.{_≡_};
 ghost use Rattle.octets.specs.Octets.{bytes, alike};
 ghost use Rattle.message.specs.Known.{orElse, knownOf, indexOf};
@@ -13,12 +14,18 @@ fn or_unknown(same: bool, k: message::Known) -> message::Known
     if same { k } else { message::Known::Unknown }
 }
 
-// A byte string is laid out where its function begins. This one is long enough to be laid out also when it is compiled,
-// so it stands here, and not among those that are compared with every name.
+// A byte string is laid out where its function begins. These two are long enough to be laid out also when they are
+// compiled, so they stand here, and not among those that are compared with every name.
 fn is_active_request_id_list(n: &[u8]) -> bool
     ensures { λ r. ⌜ r ≡ alike (now (n .entry)) (bytes "Active-Request-Id-List") ⌝ }
 {
     octets::alike(n, b"Active-Request-Id-List")
+}
+
+fn is_confidence_threshold(n: &[u8]) -> bool
+    ensures { λ r. ⌜ r ≡ alike (now (n .entry)) (bytes "Confidence-Threshold") ⌝ }
+{
+    octets::alike(n, b"Confidence-Threshold")
 }
 
 // Which known name `n` is: no two of them are equally long.
@@ -47,6 +54,10 @@ pub fn known(n: &[u8]) -> message::Known
             octets::alike(n, b"Channel-Identifier"),
             message::Known::ChannelIdentifier,
         ),
+        20 => or_unknown(
+            is_confidence_threshold(n),
+            message::Known::ConfidenceThreshold,
+        ),
         22 => or_unknown(
             is_active_request_id_list(n),
             message::Known::ActiveRequestIdList,
@@ -55,7 +66,7 @@ pub fn known(n: &[u8]) -> message::Known
     }
 }
 
-// The names' bits in the mask; the last one says that a field with another name came.
+// The names' bits in the mask; OTHER_NAME says that a field with another name came.
 pub const CHANNEL_IDENTIFIER: u16 = 1;
 
 pub const CONTENT_LENGTH: u16 = 2;
@@ -72,13 +83,20 @@ pub const LOGGING_TAG: u16 = 64;
 
 pub const OTHER_NAME: u16 = 128;
 
+pub const CONFIDENCE_THRESHOLD: u16 = 256;
+
 // The known ones together.
-const KNOWN_NAMES: u16 = 127;
+const KNOWN_NAMES: u16 = 383;
 
-// The names that are ignored in SPEAK, in STOP and in any other method.
-pub const IGNORED_IN_SPEAK: u16 = ACTIVE_REQUEST_ID_LIST | OTHER_NAME;
+// The names that are ignored in SPEAK, in RECOGNIZE, in STOP and in any other method.
+pub const IGNORED_IN_SPEAK: u16 = ACTIVE_REQUEST_ID_LIST | OTHER_NAME | CONFIDENCE_THRESHOLD;
 
-pub const IGNORED_IN_STOP: u16 = CONTENT_TYPE | KILL_ON_BARGE_IN | OTHER_NAME;
+pub const IGNORED_IN_RECOGNIZE: u16 = ACTIVE_REQUEST_ID_LIST | KILL_ON_BARGE_IN | OTHER_NAME;
+
+pub const IGNORED_IN_STOP: u16 = CONTENT_TYPE
+    | KILL_ON_BARGE_IN
+    | OTHER_NAME
+    | CONFIDENCE_THRESHOLD;
 
 pub const IGNORED_ELSEWHERE: u16 = ACTIVE_REQUEST_ID_LIST | IGNORED_IN_STOP;
 
@@ -95,6 +113,7 @@ pub fn bit(k: message::Known) -> u16
         message::Known::ProxySyncId => PROXY_SYNC_ID,
         message::Known::LoggingTag => LOGGING_TAG,
         message::Known::Unknown => OTHER_NAME,
+        message::Known::ConfidenceThreshold => CONFIDENCE_THRESHOLD,
     }
 }
 
@@ -110,6 +129,7 @@ pub fn index(k: message::Known) -> usize
         message::Known::ProxySyncId => 5,
         message::Known::LoggingTag => 6,
         message::Known::Unknown => 7,
+        message::Known::ConfidenceThreshold => 8,
     }
 }
 

@@ -6,7 +6,8 @@ use lib.ListN.{take}
 use Rattle.message.specs.Message.{Fields}
 use Rattle.message.specs.declared.RequestState.{RequestState}
 use Rattle.answer.specs.Answers.{responseOf}
-use Rattle.synth.specs.Channel.{View, withQueue}
+use Rattle.answer.specs.declared.Kind.{Kind}
+use Rattle.synth.specs.Channel.{View, kind, withQueue}
 use Rattle.synth.specs.Request.{Request}
 use Rattle.synth.specs.Judgement.{Verdict, late}
 use Rattle.synth.specs.States as S
@@ -37,15 +38,22 @@ pub record Makes (v : View) (o : Outcome) (d : S.Outcome) : Type 0 where
   pub left : withQueue (o .state) (listOf (o .queue)) v ≡ d .next
   pub few : o .listed .count ≤ 16
 
--- on every channel in this state and with this queue, every request of this method and id that is told of comes to o, where these judgements
+-- on the channel v in this state and with this queue, every request of this method and id that is told of comes to o, where these judgements
 -- are still ahead of it
-abbrev pub Comes : (View → Request → Verdict) → State → Queue → Method → ℕ → (Request → Type 0) → Outcome → Type 0
-Comes ahead state queue m id told o =
-    (v : View) (major minor : ℕ) (fs : Fields (List ℕ)) →
+abbrev pub ComesAt : View → (View → Request → Verdict) → State → Queue → Method → ℕ → (Request → Type 0) → Outcome → Type 0
+ComesAt v ahead state queue m id told o =
+    (major minor : ℕ) (fs : Fields (List ℕ)) →
     (let w : View = withQueue state (listOf queue) v in
     let r : Request = asked major minor m id fs in
     told r → Makes w o (afterLate (ahead w r) w r))
 
--- from judgement 6 on
+-- on every channel of this kind, where these judgements are still ahead, and from judgement 6 on
+abbrev pub ComesOn : Kind → (View → Request → Verdict) → State → Queue → Method → ℕ → (Request → Type 0) → Outcome → Type 0
+ComesOn k ahead state queue m id told o = (v : View) → kind v ≡ k → ComesAt v ahead state queue m id told o
+
+abbrev pub ActsOn : Kind → State → Queue → Method → ℕ → (Request → Type 0) → Outcome → Type 0
+ActsOn k = ComesOn k late
+
+-- on every channel, whatever its kind
 abbrev pub Acts : State → Queue → Method → ℕ → (Request → Type 0) → Outcome → Type 0
-Acts = Comes late
+Acts state queue m id told o = (v : View) → ComesAt v late state queue m id told o

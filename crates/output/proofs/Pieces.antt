@@ -14,7 +14,8 @@ use Rattle.message.specs.StartLines.{stateText}
 use Rattle.message.specs.declared.RequestState.{RequestState}
 use Rattle.message.specs.declared.RequestState.the-variants.{Complete}
 use Rattle.answer.specs.Written.{startText, fieldText, fieldsText, afterLength, written}
-use Rattle.answer.specs.Answers.{channelIdentifier, activeRequestIdList, completionCause, response, speakComplete}
+use Rattle.answer.specs.Answers.{channelIdentifier, activeRequestIdList, eventName, completionCause, response, complete}
+use Rattle.answer.specs.declared.Kind.{Kind}
 use Rattle.answer.proofs.Places.{field-size}
 use Rattle.answer.proofs.Frames.{written-length}
 use Rattle.answer.proofs.Sizes.{response-start, event-start}
@@ -70,32 +71,32 @@ one-field : (f : Field (List ℕ)) → fieldsText (f ∷ []) ≡ fieldText f
 unfolding fieldsText
 one-field f = append-nil (fieldText f)
 
-module _ (name : List ℕ) (id cause : ℕ) where
-  pub complete-room : {n : ℕ} → n ≡ length (written (speakComplete name id cause))
-      → (n ≡ 10 + width n + (26 + width id) + (21 + length name) + (19 + length (completionCause cause .value)) + 2)
+module _ (kind : Kind) (name : List ℕ) (id cause : ℕ) where
+  pub complete-room : {n : ℕ} → n ≡ length (written (complete kind name id cause))
+      → (n ≡ 10 + width n + (12 + length (eventName kind) + width id) + (21 + length name) + (19 + length (completionCause kind cause .value)) + 2)
       × (length (openingText n) ≡ 10 + width n)
-      × (length (startText (M.event (bytes "SPEAK-COMPLETE") id Complete) ++ crlf) ≡ 26 + width id)
+      × (length (startText (M.event (eventName kind) id Complete) ++ crlf) ≡ 12 + length (eventName kind) + width id)
       × (length (fieldText (channelIdentifier name)) ≡ 21 + length name)
-      × (length (fieldText (completionCause cause)) ≡ 19 + length (completionCause cause .value))
+      × (length (fieldText (completionCause kind cause)) ≡ 19 + length (completionCause kind cause .value))
   complete-room {n} e =
-      let base : ℕ = 35 + length name + (24 + width id + (19 + length (completionCause cause .value))) in
-      let s = e ∙ complete-measured name id cause in (
+      let base : ℕ = 35 + length name + (10 + length (eventName kind) + width id + (19 + length (completionCause kind cause .value))) in
+      let s = e ∙ complete-measured kind name id cause in (
         omega (arith, ap width s, self-length base .fits),
         opening-length n,
         omega (
           arith,
-          length-append (startText (M.event (bytes "SPEAK-COMPLETE") id Complete)) crlf,
-          event-start (bytes "SPEAK-COMPLETE") id Complete,
+          length-append (startText (M.event (eventName kind) id Complete)) crlf,
+          event-start (eventName kind) id Complete,
         ),
         omega (arith, field-size (channelIdentifier name)),
-        omega (arith, field-size (completionCause cause)),
+        omega (arith, field-size (completionCause kind cause)),
       )
 
-  pub complete-pieces : (n : ℕ) → n ≡ length (written (speakComplete name id cause))
-      → openingText n ++ (startText (M.event (bytes "SPEAK-COMPLETE") id Complete) ++ crlf) ++ fieldText (channelIdentifier name)
-      ++ fieldText (completionCause cause) ++ crlf
-      ≡ written (speakComplete name id cause)
-  unfolding speakComplete
+  pub complete-pieces : (n : ℕ) → n ≡ length (written (complete kind name id cause))
+      → openingText n ++ (startText (M.event (eventName kind) id Complete) ++ crlf) ++ fieldText (channelIdentifier name)
+      ++ fieldText (completionCause kind cause) ++ crlf
+      ≡ written (complete kind name id cause)
+  unfolding complete
   complete-pieces n e =
-      rw (← one-field (completionCause cause))
-      (pieces (M.event (bytes "SPEAK-COMPLETE") id Complete) (channelIdentifier name) (completionCause cause ∷ []) n e)
+      rw (← one-field (completionCause kind cause))
+      (pieces (M.event (eventName kind) id Complete) (channelIdentifier name) (completionCause kind cause ∷ []) n e)

@@ -11,7 +11,14 @@ ghost use Rattle.message.specs.StartLines.{stateText};
 ghost use Rattle.message.specs.declared.RequestState.{RequestState};
 ghost use Rattle.answer.specs.Written.{startText, fieldText, fieldsText};
 ghost use Rattle.answer.specs.IdList.{behindCommas};
-ghost use Rattle.answer.specs.Answers.{channelIdentifier, activeRequestIdList, causeNames, completionCause};
+ghost use Rattle.answer.specs.Answers.{
+  channelIdentifier,
+  activeRequestIdList,
+  eventName,
+  causeNames,
+  completionCause,
+};
+ghost use Rattle.answer.specs.declared.Kind.{Kind};
 ghost use Rattle.pieces.specs.Steps.{openingText};
 
 fn put_state(out: &mut [u8], at: usize, state: message::RequestState) -> usize
@@ -50,13 +57,24 @@ pub fn put_response_line(out: &mut [u8], at: usize, a: answer::Answer) -> usize
     writers::put_bytes(out, t, b"\r\n")
 }
 
-// The rest of the event's start line.
-pub fn put_event_line(out: &mut [u8], at: usize, id: u32) -> usize
+// The rest of the start line of SPEAK-COMPLETE.
+pub fn put_speak_line(out: &mut [u8], at: usize, id: u32) -> usize
     requires { ⌜ at + (26 + width id) ≤ length (now out) ⌝ }
     ensures { λ r. ⌜ Wrote (now (out .entry)) at
-        (startText (eventLine (bytes "SPEAK-COMPLETE") id RequestState.Complete) ++ crlf) (now (out .exit)) r ⌝ }
+        (startText (eventLine (eventName Kind.Synthesizer) id RequestState.Complete) ++ crlf) (now (out .exit)) r ⌝ }
 {
     let p = writers::put_bytes(out, at, b"SPEAK-COMPLETE ");
+    let q = writers::put_digits(out, p, id as u64);
+    writers::put_bytes(out, q, b" COMPLETE\r\n")
+}
+
+// The rest of the start line of RECOGNITION-COMPLETE.
+pub fn put_recognition_line(out: &mut [u8], at: usize, id: u32) -> usize
+    requires { ⌜ at + (32 + width id) ≤ length (now out) ⌝ }
+    ensures { λ r. ⌜ Wrote (now (out .entry)) at
+        (startText (eventLine (eventName Kind.Recognizer) id RequestState.Complete) ++ crlf) (now (out .exit)) r ⌝ }
+{
+    let p = writers::put_bytes(out, at, b"RECOGNITION-COMPLETE ");
     let q = writers::put_digits(out, p, id as u64);
     writers::put_bytes(out, q, b" COMPLETE\r\n")
 }
@@ -101,25 +119,50 @@ pub fn put_id_list(out: &mut [u8], at: usize, ids: &[u32]) -> usize
     writers::put_bytes(out, r, b"\r\n")
 }
 
-// A cause's name; nothing where there is no such cause.
-fn put_cause_name(out: &mut [u8], at: usize, cause: u32) -> usize
-    requires { ⌜ at + length (getD causeNames cause []) ≤ length (now out) ⌝ }
-    ensures { λ r. ⌜ Wrote (now (out .entry)) at (getD causeNames cause []) (now (out .exit)) r ⌝ }
+// The name of a synthesizer's cause; nothing where there is no such cause.
+fn put_speak_name(out: &mut [u8], at: usize, cause: u32) -> usize
+    requires { ⌜ at + length (getD (causeNames Kind.Synthesizer) cause []) ≤ length (now out) ⌝ }
+    ensures { λ r. ⌜ Wrote (now (out .entry)) at (getD (causeNames Kind.Synthesizer) cause []) (now (out .exit)) r ⌝ }
 {
-    let names = answer::cause_names();
-    let place = answer::cause_place(cause);
+    let names = answer::synthesizer_causes();
+    let place = answer::synthesizer_place(cause);
     let start = place.start;
     let end = start + place.len;
     writers::put_bytes(out, at, &names[start..end])
 }
 
-pub fn put_completion_cause(out: &mut [u8], at: usize, cause: u32) -> usize
-    requires { ⌜ at + (19 + length (completionCause cause .value)) ≤ length (now out) ⌝ }
-    ensures { λ r. ⌜ Wrote (now (out .entry)) at (fieldText (completionCause cause)) (now (out .exit)) r ⌝ }
+// The cause of SPEAK-COMPLETE.
+pub fn put_speak_cause(out: &mut [u8], at: usize, cause: u32) -> usize
+    requires { ⌜ at + (19 + length (completionCause Kind.Synthesizer cause .value)) ≤ length (now out) ⌝ }
+    ensures { λ r. ⌜ Wrote (now (out .entry)) at (fieldText (completionCause Kind.Synthesizer cause)) (now (out .exit)) r ⌝ }
 {
     let p = writers::put_bytes(out, at, b"Completion-Cause:");
     let q = writers::put_three(out, p, cause);
     let r = writers::put_bytes(out, q, b" ");
-    let s = put_cause_name(out, r, cause);
+    let s = put_speak_name(out, r, cause);
+    writers::put_bytes(out, s, b"\r\n")
+}
+
+// The name of a recognizer's cause; nothing where there is no such cause.
+fn put_recognition_name(out: &mut [u8], at: usize, cause: u32) -> usize
+    requires { ⌜ at + length (getD (causeNames Kind.Recognizer) cause []) ≤ length (now out) ⌝ }
+    ensures { λ r. ⌜ Wrote (now (out .entry)) at (getD (causeNames Kind.Recognizer) cause []) (now (out .exit)) r ⌝ }
+{
+    let names = answer::recognizer_causes();
+    let place = answer::recognizer_place(cause);
+    let start = place.start;
+    let end = start + place.len;
+    writers::put_bytes(out, at, &names[start..end])
+}
+
+// The cause of RECOGNITION-COMPLETE.
+pub fn put_recognition_cause(out: &mut [u8], at: usize, cause: u32) -> usize
+    requires { ⌜ at + (19 + length (completionCause Kind.Recognizer cause .value)) ≤ length (now out) ⌝ }
+    ensures { λ r. ⌜ Wrote (now (out .entry)) at (fieldText (completionCause Kind.Recognizer cause)) (now (out .exit)) r ⌝ }
+{
+    let p = writers::put_bytes(out, at, b"Completion-Cause:");
+    let q = writers::put_three(out, p, cause);
+    let r = writers::put_bytes(out, q, b" ");
+    let s = put_recognition_name(out, r, cause);
     writers::put_bytes(out, s, b"\r\n")
 }

@@ -4,16 +4,16 @@ use mathlib.Core.Path.{_≡_, refl, sym, ap, _∙_}
 use mathlib.Core.List.{List, [], _∷_, _++_, map, append-nil}
 use native.Mathlib.Omega.{arith}
 use lib.Dec.{eqb}
-use lib.ListN.{length, take, getD, length-append, length-map, length-take, length-replicate}
+use lib.ListN.{length, take, getD, set, length-append, length-map, length-take, length-replicate}
 use borrow.Author.Tests.{ne-eqb}
 use mir.Val.{Val}
 use denote.Laws.{Is}
 use Rattle.lists.specs.Lists.{isEmpty}
+use Rattle.synth.specs.Channel.{ids}
 use Rattle.synth.specs.States.{whileAny, active}
 use Rattle.synth.specs.declared.Entry.{Entry}
 use Rattle.synth.specs.declared.State.{State}
-use Rattle.synth.specs.declared.State.the-variants.{Idle}
-use Rattle.queue.specs.Queue.{noEntry, listOf, emptyQueue, first, Lists, noIds}
+use Rattle.queue.specs.Queue.{noEntry, idIn, entryOf, entriesOf, listOf, emptyQueue, first, Lists, noIds}
 use Rattle.queue.specs.declared.Queue.{Queue}
 use Rattle.queue.specs.declared.Ids.{Ids}
 use Rattle.queue.proofs.Queue.{the-row}
@@ -26,9 +26,51 @@ length-of X Y f l n p = sym (length-map l f) ∙ p
 pub ids-16 : (l : Ids) (vs : List Val) → Is I.the-row l vs → length (l .ids) ≡ 16
 ids-16 l vs good = search length-of
 
+-- those numbers with their thresholds: as many, at the same places
+pub entries-long : (numbers : List ℕ) (levels : List ℕ) → length levels ≡ length numbers → length (entriesOf numbers levels) ≡ length numbers
+entries-long [] levels e = refl
+entries-long (h ∷ numbers) [] e = absurd (let z : 0 ≡ suc (length numbers) = e in omega arith)
+entries-long (h ∷ numbers) (n ∷ levels) e = ap suc (entries-long numbers levels (omega (arith, e)))
+
+pub entry-at : (numbers : List ℕ) (levels : List ℕ) (i : ℕ) → length levels ≡ length numbers
+    → getD (entriesOf numbers levels) i noEntry ≡ entryOf (getD numbers i 0) (getD levels i 0)
+entry-at [] [] i e = refl
+entry-at [] (n ∷ levels) i e = absurd (let z : suc (length levels) ≡ 0 = e in omega arith)
+entry-at (h ∷ numbers) [] i e = absurd (let z : 0 ≡ suc (length numbers) = e in omega arith)
+entry-at (h ∷ numbers) (n ∷ levels) zero e = refl
+entry-at (h ∷ numbers) (n ∷ levels) (suc i) e = entry-at numbers levels i (omega (arith, e))
+
+pub entry-set : (numbers : List ℕ) (levels : List ℕ) (i : ℕ) (h n : ℕ) → length levels ≡ length numbers
+    → entriesOf (set numbers i h) (set levels i n) ≡ set (entriesOf numbers levels) i (entryOf h n)
+entry-set [] levels i h n e = refl
+entry-set (x ∷ numbers) [] i h n e = absurd (let z : 0 ≡ suc (length numbers) = e in omega arith)
+entry-set (x ∷ numbers) (m ∷ levels) zero h n e = refl
+entry-set (x ∷ numbers) (m ∷ levels) (suc i) h n e = ap (λ (l : List Entry). entryOf x m ∷ l) (entry-set numbers levels i h n (omega (arith, e)))
+
+abbrev pub idsIn : List ℕ → List ℕ
+idsIn numbers = map idIn numbers
+
+pub entry-ids : (n : ℕ) (numbers : List ℕ) (levels : List ℕ) → length levels ≡ length numbers → ids (take n (entriesOf numbers levels)) ≡ idsIn (take n numbers)
+entry-ids zero numbers levels e = refl
+entry-ids (suc n) [] levels e = refl
+entry-ids (suc n) (h ∷ numbers) [] e = absurd (let z : 0 ≡ suc (length numbers) = e in omega arith)
+entry-ids (suc n) (h ∷ numbers) (m ∷ levels) e = ap (λ (l : List ℕ). idIn h ∷ l) (entry-ids n numbers levels (omega (arith, e)))
+
+abbrev pub entriesIn : Queue → List Entry
+entriesIn q = entriesOf (q .numbers) (q .thresholds)
+
 module _ (q : Queue) (vs : List Val) (good : Is the-row q vs) where
-  pub entries-16 : length (q .entries) ≡ 16
-  entries-16 = search length-of
+  pub numbers-16 : length (q .numbers) ≡ 16
+  numbers-16 = search length-of
+
+  pub levels-16 : length (q .thresholds) ≡ 16
+  levels-16 = search length-of
+
+  pub as-many : length (q .thresholds) ≡ length (q .numbers)
+  as-many = levels-16 ∙ sym numbers-16
+
+  pub entries-16 : length (entriesIn q) ≡ 16
+  entries-16 = entries-long (q .numbers) (q .thresholds) as-many ∙ numbers-16
 
   -- a queue is as long as its count says
   pub count-is : length (listOf q) ≡ q .count
@@ -44,7 +86,7 @@ module _ (q : Queue) (vs : List Val) (good : Is the-row q vs) where
       go (e ∷ l) = sym (ne-eqb (suc (length l)) 0 (λ z. let y : suc (length l) ≡ 0 = z in omega arith))
 
 module _ (q : Queue) where
-  pub within : q .count ≤ 16 → listOf q ≡ take (q .count) (q .entries)
+  pub within : q .count ≤ 16 → listOf q ≡ take (q .count) (entriesIn q)
   unfolding listOf
   within h = let z : q .count - 16 ≡ 0 = omega arith in rw (z, append-nil)
 
@@ -52,27 +94,30 @@ module _ (q : Queue) where
   none-in z = rw (within (omega arith), z)
 
   -- the first entry, whatever the count says of the others
-  pub active-is : length (q .entries) ≡ 16 → (q .count ≡ 0 → ⊥) → getD (q .entries) 0 noEntry ≡ first (listOf q)
+  pub active-is : length (q .numbers) ≡ 16 → length (q .thresholds) ≡ 16 → (q .count ≡ 0 → ⊥)
+      → entryOf (getD (q .numbers) 0 0) (getD (q .thresholds) 0 0) ≡ first (listOf q)
   unfolding listOf
-  active-is l h = go (q .entries) (q .count) _ (omega arith) (λ z. h z)
+  active-is l k h = go (q .numbers) (q .thresholds) (q .count) _ (omega arith) (omega arith) (λ z. h z)
     where
-      go : (l : List Entry) (n : ℕ) (rest : List Entry) → 1 ≤ length l → (n ≡ 0 → ⊥) → getD l 0 noEntry ≡ first (take n l ++ rest)
-      go [] n rest k h = absurd (let z : 1 ≤ 0 = k in omega arith)
-      go (e ∷ l) zero rest k h = absurd (h refl)
-      go (e ∷ l) (suc n) rest k h = refl
+      go : (numbers : List ℕ) (levels : List ℕ) (n : ℕ) (rest : List Entry) → 1 ≤ length numbers → 1 ≤ length levels → (n ≡ 0 → ⊥)
+          → entryOf (getD numbers 0 0) (getD levels 0 0) ≡ first (take n (entriesOf numbers levels) ++ rest)
+      go [] levels n rest k m h = absurd (let z : 1 ≤ 0 = k in omega arith)
+      go (x ∷ numbers) [] n rest k m h = absurd (let z : 1 ≤ 0 = m in omega arith)
+      go (x ∷ numbers) (y ∷ levels) zero rest k m h = absurd (h refl)
+      go (x ∷ numbers) (y ∷ levels) (suc n) rest k m h = refl
 
 -- the active id is that of the first entry
 pub active-listed : (queue : List Entry) → (length queue ≡ 0 → ⊥) → first queue .id ∷ [] ≡ active queue
 active-listed [] h = absurd (h refl)
 active-listed (e ∷ queue) h = refl
 
-pub none-idle : (state : State) (rest : List Entry) → length rest ≡ 0 → whileAny state rest ≡ Idle
-none-idle state [] h = refl
-none-idle state (e ∷ rest) h = absurd (let z : suc (length rest) ≡ 0 = h in omega arith)
+pub none-last : (last state : State) (rest : List Entry) → length rest ≡ 0 → whileAny last state rest ≡ last
+none-last last state [] h = refl
+none-last last state (e ∷ rest) h = absurd (let z : suc (length rest) ≡ 0 = h in omega arith)
 
-pub some-stays : (state : State) (rest : List Entry) → (length rest ≡ 0 → ⊥) → whileAny state rest ≡ state
-some-stays state [] h = absurd (h refl)
-some-stays state (e ∷ rest) h = refl
+pub some-stays : (last state : State) (rest : List Entry) → (length rest ≡ 0 → ⊥) → whileAny last state rest ≡ state
+some-stays last state [] h = absurd (h refl)
+some-stays last state (e ∷ rest) h = refl
 
 pub none-listed : Lists [] noIds
 none-listed = record { shown = refl; counted = refl; few = omega arith }

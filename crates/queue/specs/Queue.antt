@@ -1,8 +1,9 @@
 -- The queue that the code keeps, as document 01 has it; which entries a mask marks; which ids are listed.
-use Prim.Native.Nat.{ℕ, suc, _-_, _≤_}
+use Prim.Native.Nat.{ℕ, suc, _-_, _/_, _%_, _≤_}
 use mathlib.Core.Path.{_≡_}
 use mathlib.Core.Bool.{Bool, true, false, Bool·beq}
 use mathlib.Core.List.{List, [], _∷_, _++_}
+use lib.Dec.{eqb}
 use lib.ListN.{length, take, replicate}
 use Rattle.lists.specs.Lists.{put, bit}
 use Rattle.synth.specs.Channel.{ids}
@@ -13,14 +14,29 @@ use Rattle.queue.specs.declared.Ended.{Ended}
 
 -- what the array holds past the count
 abbrev pub noEntry : Entry
-noEntry = record { id = 0; kill = false }
+noEntry = record { id = 0; kill = false; threshold = 0 }
 
--- the outstanding SPEAKs. A count past the array's length is seen too, so that no such queue looks sound
+-- what a request's number tells: its id doubled, and one more where barge-in kills it
+abbrev pub idIn : ℕ → ℕ
+idIn n = n / 2 % 4294967296
+
+abbrev pub killIn : ℕ → Bool
+killIn n = eqb (n % 2) 1
+
+abbrev pub entryOf : ℕ → ℕ → Entry
+entryOf n threshold = record { id = idIn n; kill = killIn n; threshold = threshold }
+
+abbrev pub entriesOf : List ℕ → List ℕ → List Entry
+entriesOf [] levels = []
+entriesOf (n ∷ numbers) [] = []
+entriesOf (n ∷ numbers) (m ∷ levels) = entryOf n m ∷ entriesOf numbers levels
+
+-- the outstanding requests. A count past the array's length is seen too, so that no such queue looks sound
 unfoldable pub listOf : Queue → List Entry
-listOf q = take (q .count) (q .entries) ++ replicate (q .count - 16) noEntry
+listOf q = take (q .count) (entriesOf (q .numbers) (q .thresholds)) ++ replicate (q .count - 16) noEntry
 
 abbrev pub emptyQueue : Queue
-emptyQueue = record { entries = replicate 16 noEntry; count = 0 }
+emptyQueue = record { numbers = replicate 16 0; thresholds = replicate 16 0; count = 0 }
 
 -- the active one, where there is one
 abbrev pub first : List Entry → Entry

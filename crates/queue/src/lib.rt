@@ -1,4 +1,4 @@
-// The queue of a channel, and its state: document 01, "States and queue".
+// The queue of a channel, and its state: document 01, "States and queue", and document 02, K1.
 ghost use mathlib.Core.Path.{_≡_};
 ghost use mathlib.Core.Bool.{_&&_};
 ghost use mathlib.Core.List.{[], _∷_, _++_};
@@ -6,17 +6,26 @@ ghost use Prim.Native.Nat.{_<_, _≤_};
 ghost use lib.Dec.{leb};
 ghost use lib.ListN.{length};
 ghost use Rattle.lists.specs.Lists.{bit, isEmpty, ascends};
-ghost use Rattle.synth.specs.Channel.{isIdle, ids as idsOf};
+ghost use Rattle.answer.specs.declared.Kind.{Kind};
+ghost use Rattle.synth.specs.Kinds.{most, isStateOf};
+ghost use Rattle.synth.specs.Channel.{isBusy, ids as idsOf};
 ghost use Rattle.synth.specs.States.{whileAny, active as activeIn};
-ghost use Rattle.queue.specs.Queue.{listOf, emptyQueue, first, noIds, Lists, Ends};
+ghost use Rattle.synth.specs.Calls.{awaits};
+ghost use Rattle.queue.specs.Queue.{idIn, killIn, listOf, emptyQueue, first, noIds, Lists, Ends};
 
-// How many may be outstanding.
+// How many may be outstanding: SPEAKs, and RECOGNIZEs.
 pub const MOST: usize = 16;
 
-// The outstanding SPEAKs, the active one first: the first `count` of `entries`.
+pub const MOST_RECOGNIZED: usize = 8;
+
+// The outstanding SPEAKs or RECOGNIZEs, the active one first: the first `count` of `numbers`, with the thresholds
+// beside. A number is an id doubled, and one more where barge-in kills the request: an array of numbers is cleared and
+// moved as a whole, one of structs field by field. The count stands between the arrays: side by side they would be
+// moved as one, by a call, and a synthesizer's thresholds could not be left out.
 pub struct Queue {
-    pub entries: [synth::Entry; MOST],
+    pub numbers: [u64; MOST],
     pub count: usize,
+    pub thresholds: [u32; MOST],
 }
 
 // Ids that an answer lists: the first `count` of `ids`.
@@ -31,16 +40,102 @@ pub struct Ended {
     pub queue: Queue,
 }
 
-// What stands behind the entries that count.
-pub const NO_ENTRY: synth::Entry = synth::Entry { id: 0, kill: false };
+// What stands behind those that count.
+pub const NO_ENTRY: synth::Entry = synth::Entry {
+    id: 0,
+    kill: false,
+    threshold: 0,
+};
 
-pub fn is_idle(s: synth::State) -> bool
-    ensures { λ r. ⌜ r ≡ isIdle s ⌝ }
+// The request-id of a number, and the number of a request.
+fn id_in(n: u64) -> u32
+    ensures { λ r. ⌜ r ≡ idIn n ⌝ }
+{
+    (n / 2 % 4294967296) as u32
+}
+
+fn kill_in(n: u64) -> bool
+    ensures { λ r. ⌜ r ≡ killIn n ⌝ }
+{
+    n % 2 == 1
+}
+
+fn number(e: synth::Entry) -> u64
+    ensures { λ r. ⌜ (idIn r ≡ e .id) × (killIn r ≡ e .kill) ⌝ }
+{
+    let id = e.id as u64;
+    let kill = e.kill;
+    if kill {
+        return id * 2 + 1;
+    }
+    id * 2
+}
+
+pub fn most(kind: answer::Kind) -> usize
+    ensures { λ r. ⌜ (r ≡ most kind) × (r ≤ 16) ⌝ }
+{
+    match kind {
+        answer::Kind::Synthesizer => MOST,
+        answer::Kind::Recognizer => MOST_RECOGNIZED,
+    }
+}
+
+// Whether something is outstanding in this state.
+pub fn is_busy(s: synth::State) -> bool
+    ensures { λ r. ⌜ r ≡ isBusy s ⌝ }
+{
+    match s {
+        synth::State::Idle => false,
+        synth::State::Speaking => true,
+        synth::State::Paused => true,
+        synth::State::Recognizing => true,
+        synth::State::Recognized => false,
+    }
+}
+
+// Whether the engine may report in this state.
+pub fn awaits(s: synth::State) -> bool
+    ensures { λ r. ⌜ r ≡ awaits s ⌝ }
+{
+    match s {
+        synth::State::Idle => false,
+        synth::State::Speaking => true,
+        synth::State::Paused => false,
+        synth::State::Recognizing => true,
+        synth::State::Recognized => false,
+    }
+}
+
+fn is_synthesizers(s: synth::State) -> bool
+    ensures { λ r. ⌜ r ≡ isStateOf Kind.Synthesizer s ⌝ }
+{
+    match s {
+        synth::State::Idle => true,
+        synth::State::Speaking => true,
+        synth::State::Paused => true,
+        synth::State::Recognizing => false,
+        synth::State::Recognized => false,
+    }
+}
+
+fn is_recognizers(s: synth::State) -> bool
+    ensures { λ r. ⌜ r ≡ isStateOf Kind.Recognizer s ⌝ }
 {
     match s {
         synth::State::Idle => true,
         synth::State::Speaking => false,
         synth::State::Paused => false,
+        synth::State::Recognizing => true,
+        synth::State::Recognized => true,
+    }
+}
+
+pub fn is_state_of(kind: answer::Kind, s: synth::State) -> bool
+    ensures { λ r. ⌜ r ≡ isStateOf kind s ⌝ }
+{
+    match kind {
+        answer::Kind::Synthesizer => is_synthesizers(s),
+        answer::Kind::Recognizer => is_recognizers(s),
     }
 }
 
@@ -48,7 +143,8 @@ pub fn empty() -> Queue
     ensures { λ r. ⌜ r ≡ emptyQueue ⌝ }
 {
     Queue {
-        entries: [NO_ENTRY; MOST],
+        numbers: [0u64; MOST],
+        thresholds: [0u32; MOST],
         count: 0,
     }
 }
@@ -60,26 +156,25 @@ pub fn is_empty(q: Queue) -> bool
 }
 
 // Whether no other may join.
-pub fn is_full(q: Queue) -> bool
-    ensures { λ r. ⌜ r ≡ leb 16 (length (listOf q)) ⌝ }
+pub fn is_full(kind: answer::Kind, q: Queue) -> bool
+    ensures { λ r. ⌜ r ≡ leb (most kind) (length (listOf q)) ⌝ }
 {
-    MOST <= q.count
+    most(kind) <= q.count
 }
 
 // Whether no more are outstanding than may be, and their ids rise, all of them below `end`.
-pub fn is_rising(q: Queue, end: u64) -> bool
-    ensures { λ r. ⌜ r ≡ (leb (length (listOf q)) 16 && ascends 0 (idsOf (listOf q)) end) ⌝ }
+pub fn is_rising(kind: answer::Kind, q: Queue, end: u64) -> bool
+    ensures { λ r. ⌜ r ≡ (leb (length (listOf q)) (most kind) && ascends 0 (idsOf (listOf q)) end) ⌝ }
 {
     let count = q.count;
-    if MOST < count {
+    if most(kind) < count {
         return false;
     }
-    let entries = q.entries;
+    let numbers = q.numbers;
     let mut from: u64 = 0;
     let mut i: usize = 0;
     while i < count {
-        let e = entries[i];
-        let id = e.id as u64;
+        let id = id_in(numbers[i]) as u64;
         if id < from {
             return false;
         }
@@ -98,10 +193,13 @@ pub fn join(q: Queue, e: synth::Entry) -> Queue
     if MOST <= n {
         return q;
     }
-    let mut entries = q.entries;
-    entries[n] = e;
+    let mut numbers = q.numbers;
+    numbers[n] = number(e);
+    let mut thresholds = q.thresholds;
+    thresholds[n] = e.threshold;
     Queue {
-        entries,
+        numbers,
+        thresholds,
         count: n + 1,
     }
 }
@@ -113,16 +211,22 @@ pub fn active(q: Queue) -> synth::Entry
     if q.count == 0 {
         return NO_ENTRY;
     }
-    let entries = q.entries;
-    entries[0]
+    let numbers = q.numbers;
+    let n = numbers[0];
+    let thresholds = q.thresholds;
+    synth::Entry {
+        id: id_in(n),
+        kill: kill_in(n),
+        threshold: thresholds[0],
+    }
 }
 
-// Idle where none is outstanding.
-pub fn while_any(state: synth::State, q: Queue) -> synth::State
-    ensures { λ r. ⌜ r ≡ whileAny state (listOf q) ⌝ }
+// `last` where none is outstanding.
+pub fn while_any(last: synth::State, state: synth::State, q: Queue) -> synth::State
+    ensures { λ r. ⌜ r ≡ whileAny last state (listOf q) ⌝ }
 {
     if q.count == 0 {
-        return synth::State::Idle;
+        return last;
     }
     state
 }
@@ -144,9 +248,9 @@ pub fn list_active(q: Queue) -> Ids
     if q.count == 0 {
         return list_none();
     }
-    let e = active(q);
+    let numbers = q.numbers;
     let mut ids = [0u32; MOST];
-    ids[0] = e.id;
+    ids[0] = id_in(numbers[0]);
     Ids { ids, count: 1 }
 }
 
@@ -159,12 +263,11 @@ pub fn list_held(q: Queue) -> Ids
     if MOST < count {
         return list_none();
     }
-    let entries = q.entries;
+    let numbers = q.numbers;
     let mut ids = [0u32; MOST];
     let mut i: usize = 0;
     while i < count {
-        let e = entries[i];
-        ids[i] = e.id;
+        ids[i] = id_in(numbers[i]);
         i += 1;
     }
     Ids { ids, count }
@@ -187,32 +290,37 @@ pub fn end(q: Queue, mask: u64) -> Ended
     ensures { λ r. ⌜ (length (listOf q) ≤ 16 → Ends mask (listOf q) r) ⌝ }
     ensures { λ r. ⌜ (16 < length (listOf q) → r ≡ record { listed = noIds; queue = q }) ⌝ }
 {
-    let held = q.count;
-    if MOST < held {
+    let count = q.count;
+    if MOST < count {
         let listed = list_none();
         return Ended { listed, queue: q };
     }
-    let old = q.entries;
-    let mut entries = [NO_ENTRY; MOST];
+    let old = q.numbers;
+    let levels = q.thresholds;
+    let mut numbers = [0u64; MOST];
+    let mut thresholds = [0u32; MOST];
     let mut left: usize = 0;
     let mut ids = [0u32; MOST];
     let mut gone: usize = 0;
     let mut i: usize = 0;
-    while i < held {
-        let e = old[i];
+    while i < count {
+        let n = old[i];
+        let level = levels[i];
         let ends = bit(mask, i);
         i += 1;
         if ends {
-            ids[gone] = e.id;
+            ids[gone] = id_in(n);
             gone += 1;
             continue;
         }
-        entries[left] = e;
+        numbers[left] = n;
+        thresholds[left] = level;
         left += 1;
     }
     let listed = Ids { ids, count: gone };
     let queue = Queue {
-        entries,
+        numbers,
+        thresholds,
         count: left,
     };
     Ended { listed, queue }

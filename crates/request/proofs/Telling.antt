@@ -18,7 +18,7 @@ use Rattle.message.specs.declared.Span.{Span}
 use Rattle.message.specs.declared.Known.{Known}
 use Rattle.message.specs.declared.Known.the-variants.{ChannelIdentifier, ContentLength, ContentType}
 use Rattle.message.specs.declared.Known.the-variants.{ActiveRequestIdList, KillOnBargeIn, ProxySyncId, LoggingTag}
-use Rattle.message.specs.declared.Known.the-variants.{Unknown}
+use Rattle.message.specs.declared.Known.the-variants.{Unknown, ConfidenceThreshold}
 use Rattle.message.proofs.Says.{Judged}
 use Rattle.names.specs.Names.{bitOf, namesIn}
 use Rattle.names.specs.Steps.{knownBit}
@@ -43,6 +43,7 @@ own-bit KillOnBargeIn e = refl
 own-bit ProxySyncId e = refl
 own-bit LoggingTag e = refl
 own-bit Unknown e = absurd (false≢true e)
+own-bit ConfidenceThreshold e = refl
 
 module _ (f : List ℕ) where
   none-came : (k : Known) → givenOf f (valueBy (headerOf f bad) k) ≡ none
@@ -101,7 +102,7 @@ module _ (f : List ℕ) where
 abbrev pub each : List Known
 each =
     ChannelIdentifier ∷ ContentLength ∷ ContentType ∷ ActiveRequestIdList ∷ KillOnBargeIn ∷ ProxySyncId ∷ LoggingTag
-    ∷ Unknown ∷ []
+    ∷ Unknown ∷ ConfidenceThreshold ∷ []
 
 on-each : (a b : Known → Bool) → map a each ≡ map b each → (k : Known) → a k ≡ b k
 on-each a b e ChannelIdentifier = ap (λ l. getD l 0 true) e
@@ -112,6 +113,7 @@ on-each a b e KillOnBargeIn = ap (λ l. getD l 4 true) e
 on-each a b e ProxySyncId = ap (λ l. getD l 5 true) e
 on-each a b e LoggingTag = ap (λ l. getD l 6 true) e
 on-each a b e Unknown = ap (λ l. getD l 7 true) e
+on-each a b e ConfidenceThreshold = ap (λ l. getD l 8 true) e
 
 -- a set of the names that are ignored in a method tells whether the request ignores one
 pub ignores : (f : List ℕ) (h : Header) (fs : Fields (List ℕ)) → Tells f h fs

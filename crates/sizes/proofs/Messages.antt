@@ -6,7 +6,6 @@ use native.Mathlib.Decide.{decLt}
 use mathlib.Core.Path.{_≡_, ap, _∙_}
 use mathlib.Core.List.{List, [], _∷_}
 use lib.ListN.{length}
-use Rattle.octets.specs.Octets.{bytes}
 use Rattle.writers.specs.Decimal.{width}
 use Rattle.writers.specs.SelfLength.{selfLength}
 use Rattle.writers.proofs.SelfLength.{self-more}
@@ -14,7 +13,11 @@ use Rattle.message.specs.StartLines.{stateText}
 use Rattle.message.specs.declared.RequestState.{RequestState}
 use Rattle.message.specs.declared.RequestState.the-variants.{Complete}
 use Rattle.answer.specs.Written.{fieldsText, afterLength, written}
-use Rattle.answer.specs.Answers.{channelIdentifier, activeRequestIdList, completionCause, response, speakComplete}
+use Rattle.answer.specs.Answers.{channelIdentifier, activeRequestIdList, eventName, causeNames, completionCause, response, complete}
+use Rattle.answer.specs.declared.Kind.{Kind}
+use Rattle.message.specs.declared.Span.{Span}
+use Rattle.answer.specs.Causes.{placed}
+use Rattle.answer.proofs.Causes.{name-length, cause-length}
 use Rattle.answer.proofs.Frames.{written-length}
 use Rattle.answer.proofs.Sizes.{after-size, fields-size, response-start, event-start}
 
@@ -43,18 +46,28 @@ saturated b k m cap {r} {l} h g = go (decLt cap m)
     go (yes d) = omega (arith, self-more (b + (k + l)), self-more (b + (k + m)))
     go (no d) = let e : m ≡ l = omega arith in rw e h
 
-module _ (name : List ℕ) (id cause : ℕ) where
-  complete-base : 9 + length (afterLength (speakComplete name id cause)) ≡ 35 + length name + (24 + width id + (19 + length (completionCause cause .value)))
-  unfolding speakComplete fieldsText
+module _ (kind : Kind) (name : List ℕ) (id cause : ℕ) where
+  complete-base : 9 + length (afterLength (complete kind name id cause))
+      ≡ 35 + length name + (10 + length (eventName kind) + width id + (19 + length (completionCause kind cause .value)))
+  unfolding complete fieldsText
   complete-base =
       omega (
         arith,
-        after-size (speakComplete name id cause),
-        event-start (bytes "SPEAK-COMPLETE") id Complete,
-        fields-size (channelIdentifier name) (completionCause cause ∷ []),
-        fields-size (completionCause cause) [],
+        after-size (complete kind name id cause),
+        event-start (eventName kind) id Complete,
+        fields-size (channelIdentifier name) (completionCause kind cause ∷ []),
+        fields-size (completionCause kind cause) [],
       )
 
-  pub complete-measured : length (written (speakComplete name id cause))
-      ≡ selfLength (35 + length name + (24 + width id + (19 + length (completionCause cause .value))))
-  complete-measured = written-length (speakComplete name id cause) ∙ ap selfLength complete-base
+  pub complete-measured : length (written (complete kind name id cause))
+      ≡ selfLength (35 + length name + (10 + length (eventName kind) + width id + (19 + length (completionCause kind cause .value))))
+  complete-measured = written-length (complete kind name id cause) ∙ ap selfLength complete-base
+
+  -- where the cause's name stands at p
+  pub event-measured : {p : Span} → p ≡ placed (causeNames kind) cause
+      → length (written (complete kind name id cause))
+      ≡ selfLength (35 + length name + (10 + length (eventName kind) + width id + (23 + p .len)))
+  event-measured e =
+      complete-measured
+      ∙ ap (λ (n : ℕ). selfLength (35 + length name + (10 + length (eventName kind) + width id + n)))
+      (omega (arith, cause-length kind cause, name-length kind cause e))

@@ -2,12 +2,14 @@
 // written" and refusal 7.
 ghost use mathlib.Core.Path.{_≡_};
 ghost use Prim.Native.Nat.{_+_, _^_, _≤_, _<_, min};
+ghost use mathlib.Core.List.{map};
 ghost use lib.ListN.{length};
 ghost use Rattle.writers.specs.SelfLength.{selfLength};
 ghost use Rattle.message.specs.StartLines.{stateText};
-ghost use Rattle.answer.specs.Written.{fieldsText, written};
+ghost use Rattle.answer.specs.Written.{fieldsText, written, writtenAll};
 ghost use Rattle.answer.specs.IdList.{behindCommas};
-ghost use Rattle.answer.specs.Answers.{activeRequestIdList, completionCause, responseOf, speakComplete};
+ghost use Rattle.answer.specs.Answers.{activeRequestIdList, responseOf, complete, completes};
+ghost use Rattle.answer.specs.declared.Kind.{Kind};
 
 // How many bytes the word of a state has.
 fn state_width(state: message::RequestState) -> usize
@@ -18,14 +20,6 @@ fn state_width(state: message::RequestState) -> usize
         message::RequestState::InProgress => 11,
         message::RequestState::Complete => 8,
     }
-}
-
-// How many bytes a cause's number and name have.
-fn cause_width(cause: u32) -> usize
-    ensures { λ r. ⌜ (r ≡ length (completionCause cause .value)) × (r ≤ 96) ⌝ }
-{
-    let place = answer::cause_place(cause);
-    4 + place.len
 }
 
 // The size of the ids, each with a comma before it, or cap + 1 where it is above cap.
@@ -91,13 +85,67 @@ pub fn response_size(name: &[u8], a: answer::Answer, ids: &[u32], out: &[u8]) ->
     message_size(name, words + list, cap)
 }
 
-// The size of the event that ends request `id`, or one more than `out` holds where it is longer.
-pub fn complete_size(name: &[u8], id: u32, cause: u32, out: &[u8]) -> usize
-    ensures { λ r. ⌜ r ≡ min (length (written (speakComplete (now (name .entry)) id cause)))
+// The size of the SPEAK-COMPLETE that ends request `id`, or one more than `out` holds where it is longer.
+pub fn speak_complete_size(name: &[u8], id: u32, cause: u32, out: &[u8]) -> usize
+    ensures { λ r. ⌜ r ≡ min (length (written (complete Kind.Synthesizer (now (name .entry)) id cause)))
         (length (now (out .entry)) + 1) ⌝ }
 {
     let cap = out.len();
+    let place = answer::synthesizer_place(cause);
     let words = 24 + writers::width(id as u64);
-    let field = 19 + cause_width(cause);
+    let field = 23 + place.len;
     message_size(name, words + field, cap)
+}
+
+// The size of the RECOGNITION-COMPLETE that ends request `id`, or one more than `out` holds where it is longer.
+pub fn recognition_complete_size(name: &[u8], id: u32, cause: u32, out: &[u8]) -> usize
+    ensures { λ r. ⌜ r ≡ min (length (written (complete Kind.Recognizer (now (name .entry)) id cause)))
+        (length (now (out .entry)) + 1) ⌝ }
+{
+    let cap = out.len();
+    let place = answer::recognizer_place(cause);
+    let words = 30 + writers::width(id as u64);
+    let field = 23 + place.len;
+    message_size(name, words + field, cap)
+}
+
+// The size of those that end the requests with 011, or one more than `out` holds where it is above that.
+fn cancelled_size(name: &[u8], ids: &[u32], out: &[u8]) -> usize
+    ensures { λ r. ⌜ r ≡ min
+        (length (writtenAll (map (λ i. complete Kind.Recognizer (now (name .entry)) i 11) (now (ids .entry)))))
+        (length (now (out .entry)) + 1) ⌝ }
+{
+    let cap = out.len();
+    let mut n = 0;
+    let mut i = 0;
+    while i < ids.len() {
+        n += recognition_complete_size(name, ids[i], answer::CANCELLED, out);
+        if cap < n {
+            return cap + 1;
+        }
+        i += 1;
+    }
+    n
+}
+
+// The size of those that end the requests, the first with `cause` and the others with 011, or one more than `out` holds
+// where it is above that.
+pub fn complete_all_size(name: &[u8], ids: &[u32], cause: u32, out: &[u8]) -> usize
+    ensures { λ r. ⌜ r ≡ min
+        (length (writtenAll (completes Kind.Recognizer (now (name .entry)) (now (ids .entry)) cause)))
+        (length (now (out .entry)) + 1) ⌝ }
+{
+    let cap = out.len();
+    if ids.len() == 0 {
+        return 0;
+    }
+    let first = recognition_complete_size(name, ids[0], cause, out);
+    if cap < first {
+        return first;
+    }
+    let n = first + cancelled_size(name, &ids[1..], out);
+    if cap < n {
+        return cap + 1;
+    }
+    n
 }

@@ -3,40 +3,49 @@ use Prim.Native.Nat.{ℕ}
 use Prim.Native.String.{String}
 use mathlib.Core.Bool.{true, false}
 use mathlib.Core.List.{List, map}
+use lib.Ieee.{toBits, ofBits, div, ofInt, round, units, odd, size, climb, span, lt, isNan}
+use lib.ListN.{length}
 use Rattle.octets.specs.Octets.{bytes}
 use Rattle.writers.specs.Decimal.{digits, digitsWithin, threeDigits}
 use Rattle.writers.specs.SelfLength.{selfLength}
 use Rattle.framing.specs.Framing.{opening, framing}
-use Rattle.message.specs.Message.{Start, request, response, event, Field, Reading}
+use Rattle.message.specs.Message.{Start, request, response, event, Field, Reading, Message}
 use Rattle.message.specs.StartLines.{startLine}
 use Rattle.message.specs.Fields.{fieldLine}
 use Rattle.message.specs.Known.{knownOf, valueOf}
-use Rattle.message.specs.Reading.{fieldsFrom, reading, readBytes}
+use Rattle.message.specs.Reading.{fieldsFrom, reading, readBytes, messagesIn}
 use Rattle.answer.specs.Written.{startText, fieldText, fieldsText, afterLength, written, writtenAll}
 use Rattle.answer.specs.IdList.{isIdList, idsOf, behindCommas, idListText}
 use Rattle.answer.specs.Answers as A
-use Rattle.answer.specs.Answers.{speakComplete}
+use Rattle.answer.specs.Answers.{complete}
 use Rattle.ledger.specs.Ledger.{Exchange, after, trace}
+use Rattle.synth.specs.Levels.{quotient, single, level, levelIn}
+use Rattle.synth.specs.Kinds.{kindOf}
 use Rattle.synth.specs.Channel.{View, withQueue, withLast, fresh, wellNamed, sound}
 use Rattle.synth.specs.Request.{Request, methodOf, acting, ignoresAny}
-use Rattle.synth.specs.Judgement.{_then_, unless, version, wellFormed, addressed, ours, above, legal, amongSix, valid, content, capacity, success, early, late}
+use Rattle.synth.specs.Judgement.{_then_, unless, version, wellFormed, addressed, ours, above, legal, ofKind, valid, content, capacity, success, early, late}
 use Rattle.synth.specs.States.{Outcome, act, judge}
 use Rattle.synth.specs.declared.State.{State}
 use Rattle.synth.specs.declared.Entry.{Entry}
 use Rattle.synth.specs.declared.LastId.{LastId}
-use Rattle.synth.specs.Calls.{Call, Reply, input, cause, deliver, call, openChannel}
+use Rattle.synth.specs.Calls.{Call, Reply, input, report, deliver, reported, call, openChannel}
 
 -- what a reader hears of bytes, and of a text
 unfoldable pub hearsBytes : List ℕ → Reading (List ℕ)
 unfolding readBytes reading framing opening startLine fieldLine fieldsFrom knownOf valueOf
 hearsBytes s = readBytes s
 
+-- the messages that stand end to end in what was written
+unfoldable pub hearsAll : List ℕ → List Message
+unfolding messagesIn readBytes reading framing opening startLine fieldLine fieldsFrom knownOf valueOf
+hearsAll w = messagesIn (length w) w
+
 abbrev pub hears : String → Reading (List ℕ)
 hears text = hearsBytes (bytes text)
 
 -- the channel that the opening of that name gives
 unfoldable pub opened : String → View
-unfolding openChannel wellNamed
+unfolding openChannel kindOf wellNamed
 opened name = openChannel (bytes name) .channel
 
 -- a channel of that name, in that state, with these requests outstanding: the one place that spells a channel for a table
@@ -45,10 +54,14 @@ channel name state queue last = withLast last (withQueue state queue (fresh (byt
 
 -- an outstanding request that barge-in kills, and one that it spares
 abbrev pub killed : ℕ → Entry
-killed id = record { id = id; kill = true }
+killed id = record { id = id; kill = true; threshold = 0 }
 
 abbrev pub spared : ℕ → Entry
-spared id = record { id = id; kill = false }
+spared id = record { id = id; kill = false; threshold = 0 }
+
+-- an outstanding request whose score has to be greater than the number of these bits
+abbrev pub beyond : ℕ → ℕ → Entry
+beyond threshold id = record { id = id; kill = true; threshold = threshold }
 
 -- a field with that name and value
 abbrev pub field : String → String → Field (List ℕ)
@@ -63,24 +76,25 @@ statusOf (event name id state) = 0
 abbrev pub lends : String → Call
 lends text = record { lent = input (bytes text); room = 305 }
 
-abbrev pub reports : ℕ → Call
-reports n = record { lent = cause n; room = 305 }
+-- a report of that cause with a score of these bits
+abbrev pub reports : ℕ → ℕ → Call
+reports cause score = record { lent = report cause (single score); room = 1250 }
 
 unfoldable pub replies : View → List Call → List Reply
 unfolding readBytes reading framing opening startLine fieldLine fieldsFrom knownOf valueOf startText fieldText fieldsText afterLength written writtenAll
-    digits digitsWithin threeDigits selfLength isIdList idsOf behindCommas idListText A.response speakComplete wellNamed sound methodOf acting
-    ignoresAny _then_ unless version wellFormed addressed ours above legal amongSix valid content capacity success early late act judge deliver call
+    digits digitsWithin threeDigits selfLength isIdList idsOf behindCommas idListText A.response complete quotient level levelIn div ofInt round units odd size climb span lt isNan toBits ofBits kindOf wellNamed sound methodOf acting
+    ignoresAny _then_ unless version wellFormed addressed ours above legal ofKind valid content capacity success early late act judge deliver reported call
 replies v calls = map (λ (x : Exchange Call Reply). x .reply) (trace call v calls)
 
 -- what a request comes to
 unfoldable pub judges : View → Request → Outcome
-unfolding knownOf valueOf digits digitsWithin isIdList idsOf behindCommas idListText A.response acting ignoresAny _then_ unless version wellFormed addressed ours
-    above legal amongSix valid content capacity success early late act judge
+unfolding knownOf valueOf digits digitsWithin isIdList idsOf behindCommas idListText A.response quotient level levelIn div ofInt round units odd size climb span toBits kindOf acting ignoresAny _then_ unless version wellFormed addressed ours
+    above legal ofKind valid content capacity success early late act judge
 judges v r = judge v r
 
 -- the channel after the calls
 unfoldable pub leaves : View → List Call → View
 unfolding readBytes reading framing opening startLine fieldLine fieldsFrom knownOf valueOf startText fieldText fieldsText afterLength written writtenAll
-    digits digitsWithin threeDigits selfLength isIdList idsOf behindCommas idListText A.response speakComplete wellNamed sound methodOf acting
-    ignoresAny _then_ unless version wellFormed addressed ours above legal amongSix valid content capacity success early late act judge deliver call
+    digits digitsWithin threeDigits selfLength isIdList idsOf behindCommas idListText A.response complete quotient level levelIn div ofInt round units odd size climb span lt isNan toBits ofBits kindOf wellNamed sound methodOf acting
+    ignoresAny _then_ unless version wellFormed addressed ours above legal ofKind valid content capacity success early late act judge deliver reported call
 leaves v calls = after call v calls

@@ -9,12 +9,12 @@ use Rattle.message.specs.Message.{Message}
 use Rattle.message.specs.declared.RequestState.{RequestState}
 use Rattle.message.specs.declared.RequestState.the-variants.{Complete}
 use Rattle.answer.specs.Answers.{response}
-use Rattle.synth.specs.Channel.{View, withLast}
+use Rattle.synth.specs.Channel.{View, withLast, is, isBusy}
 use Rattle.synth.specs.Request.{Request}
 use Rattle.synth.specs.Judgement.{Verdict, passes, fails, success, early, late}
-use Rattle.synth.specs.States.{Outcome, speak, bargeIn, resume, act, afterLate, afterEarly, judge}
+use Rattle.synth.specs.States.{Outcome, enter, bargeIn, resume, act, afterLate, afterEarly, judge}
 use Rattle.synth.specs.declared.State.{State}
-use Rattle.synth.specs.declared.State.the-variants.{Idle, Speaking, Paused}
+use Rattle.synth.specs.declared.State.the-variants.{Speaking, Paused, Recognizing}
 use Rattle.synth.specs.declared.Method.{Method}
 use Rattle.synth.specs.declared.Entry.{Entry}
 use Rattle.synth.specs.declared.LastId.the-variants.{Seen}
@@ -32,29 +32,27 @@ module _ (v : View) (r : Request) (P : List Message → Type 0) (when-succeeds :
   abbrev Has : Outcome → Type 0
   Has o = P (o .says)
 
-  spoken : (s : State) → Has (speak s v r)
-  spoken Idle = when-succeeds _ _
-  spoken Speaking = when-succeeds _ _
-  spoken Paused = when-succeeds _ _
+  entered : (s : State) → Has (enter s v r)
+  entered s = choose Has (isBusy (v .state)) (λ _. when-succeeds _ _) (λ _. when-succeeds _ _)
 
   barged : (q : List Entry) → Has (bargeIn q v r)
   barged [] = when-succeeds _ _
   barged (e ∷ q) = choose Has (e .kill) (λ _. when-succeeds _ _) (λ _. when-succeeds _ _)
 
-  resumed : (s : State) → Has (resume s v r)
-  resumed Idle = when-succeeds _ _
-  resumed Speaking = when-succeeds _ _
-  resumed Paused = when-succeeds _ _
+  resumed : Has (resume v r)
+  resumed = choose Has (is (v .state) Paused) (λ _. when-succeeds _ _) (λ _. when-succeeds _ _)
 
   acted : (m : Method) → Has (act m v r)
   unfolding act
-  acted Method.Speak = spoken (v .state)
+  acted Method.Speak = entered Speaking
   acted Method.Stop = when-succeeds _ _
   acted Method.Pause = when-succeeds _ _
-  acted Method.Resume = resumed (v .state)
+  acted Method.Resume = resumed
   acted Method.Control = when-succeeds _ _
   acted Method.BargeInOccurred = barged (v .queue)
   acted Method.Unknown = when-fails 401 refl
+  acted Method.Recognize = entered Recognizing
+  acted Method.StartInputTimers = when-succeeds _ _
 
   after-late : (l : Verdict) → Fair l → Has (afterLate l v r)
   after-late passes h = acted (r .method)

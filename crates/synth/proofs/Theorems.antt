@@ -1,6 +1,10 @@
+pub mod Kinds
 pub mod Table
 pub mod Judgements
 pub mod Transitions
+pub mod Recognitions
+pub mod Thresholds
+pub mod Scores
 pub mod Readings
 pub mod HandledCalls
 pub mod OneResponse

@@ -1,41 +1,34 @@
 -- Every call either refuses, and then all is as it was, or says messages that tell its effect. Assumes nothing.
-use Prim.Native.Nat.{ℕ, _≤_}
+use Prim.Native.Nat.{ℕ, _≤_, _<_}
 use mathlib.Core.Path.{_≡_, refl, sym, subst}
-use mathlib.Core.Bool.{true, false, false≢true}
+use mathlib.Core.Bool.{true, false}
 use mathlib.Core.List.{List, [], _∷_}
 use mathlib.Core.Logic.{_⊎_, inl, inr}
-use native.Mathlib.Nat.{le-refl}
 use native.Mathlib.Omega.{arith}
 use lib.Dec.{eqb, ltb}
 use lib.ListN.{length}
-use borrow.Author.Tests.{ltb-true, ltb-false, ne-eqb}
-use Rattle.lists.specs.Lists.{All, gone}
+use lib.Ieee.{Float}
+use borrow.Author.Tests.{ltb-true, leb-false, ne-eqb}
+use Rattle.lists.specs.Lists.{All}
 use Rattle.lists.proofs.Tests.{choose}
-use Rattle.lists.proofs.Membership.{elem-head}
-use Rattle.lists.proofs.Dealing.{split-none, split-ascends, split-swap}
 use Rattle.message.specs.Message.{Message, Reading, refused, message, request, response, event}
 use Rattle.message.specs.Reading.{readBytes}
 use Rattle.message.proofs.Refusals.{refused-number}
 use Rattle.message.proofs.Theorems.IdsInRange.{id-bytes}
 use Rattle.answer.specs.Written.{writtenAll}
 use Rattle.answer.specs.Writable.{Writable}
-use Rattle.answer.specs.Answers.{speakComplete}
-use Rattle.answer.proofs.Theorems.AnswersWritable.{complete-writable}
-use Rattle.answer.proofs.Theorems.LongestAnswer.{longest-event}
+use Rattle.answer.specs.Answers.{causeNames}
 use Rattle.ledger.specs.Ledger.{Turn}
-use Rattle.ledger.proofs.Effects.{Effect, some-end}
-use Rattle.synth.specs.Channel.{View, ids, held, firstAbove, sound}
-use Rattle.synth.specs.Request.{requestOf}
+use Rattle.ledger.proofs.Effects.{Effect}
+use Rattle.synth.specs.Channel.{View, kind, held, firstAbove, sound}
+use Rattle.synth.specs.Request.{methodOf, requestOf}
 use Rattle.synth.specs.States.{Outcome, judge, completed}
-use Rattle.synth.specs.Calls.{Lent, input, cause, Call, Reply, refuse, deliver, answer, reported, onSound, call}
+use Rattle.synth.specs.Calls.{Lent, input, report, Call, Reply, refuse, deliver, answer, awaits, isNoScore, isNoCause, ending, reported, enough, onSound, call}
 use Rattle.synth.specs.Demand3.{askedBy, acceptedBy, closedBy, accepting, closing, collected}
-use Rattle.synth.specs.declared.State.{State}
-use Rattle.synth.specs.declared.State.the-variants.{Idle, Speaking, Paused}
 use Rattle.synth.specs.declared.Entry.{Entry}
-use Rattle.synth.proofs.Channels.{Facts, sound-facts, facts-sound, held-small}
-use Rattle.synth.proofs.Outcomes.{alone-short}
-use Rattle.synth.proofs.Methods.{judge-good, while-agrees}
-use Rattle.synth.proofs.Names.{name-fits}
+use Rattle.synth.proofs.Channels.{Facts, sound-facts, facts-sound}
+use Rattle.synth.proofs.Methods.{judge-good}
+use Rattle.synth.proofs.Endings.{completed-good}
 
 -- a refusal writes no byte and keeps the channel as it was
 pub record Refuses (v : View) (t : Turn View Reply) : Type 0 where
@@ -54,13 +47,13 @@ pub record Handles (v : View) (lent : Lent) (t : Turn View Reply) : Type 0 where
 
 pub record Lawful (v : View) (lent : Lent) (room : ℕ) (t : Turn View Reply) : Type 0 where
   pub does : Refuses v t ⊎ Handles v lent t
-  pub roomy : 305 ≤ room → t .reply .number ≡ 7 → ⊥
+  pub roomy : enough (kind v) lent ≤ room → t .reply .number ≡ 7 → ⊥
 
 module _ (v : View) (lent : Lent) (room : ℕ) where
   refuse-law : (n k : ℕ) → (n ≡ 0 → ⊥) → (n ≡ 7 → ⊥) → Lawful v lent room (refuse v n k)
   refuse-law n k not-0 not-7 = record { does = inl (record { number = ne-eqb n 0 not-0; silent = refl; kept = refl }); roomy = λ h. not-7 }
 
-  deliver-law : (consumed : ℕ) (o : Outcome) → All Writable (o .says) → length (writtenAll (o .says)) ≤ 305 → Facts (o .next)
+  deliver-law : (consumed : ℕ) (o : Outcome) → All Writable (o .says) → length (writtenAll (o .says)) ≤ enough (kind v) lent → Facts (o .next)
       → Effect (held v) (firstAbove (v .last)) (collected (accepting lent) (o .says)) (collected (closing lent) (o .says)) (held (o .next)) (firstAbove (o .next .last))
       → Lawful v lent room (deliver v consumed room o)
   unfolding deliver
@@ -79,8 +72,9 @@ module _ (v : View) (f : Facts v) (room : ℕ) where
   answer-law : (s : List ℕ) (m : Reading (List ℕ)) → readBytes s ≡ m → Lawful v (input s) room (answer v room m)
   answer-law s (refused n k) e = let h = refused-number s n k e in refuse-law v (input s) room n k (λ q. omega arith) (λ q. omega arith)
   answer-law s (message h (request name id) fs) e =
-      let o = judge v (requestOf h name id fs) in
-      let g = judge-good v f (requestOf h name id fs) (id-bytes s h (request name id) fs e) in
+      let r = requestOf (kind v) h name id fs in
+      let o = judge v r in
+      let g = judge-good v f r (id-bytes s h (request name id) fs e) (methodOf name) refl in
       deliver-law v (input s) room _ o (g .writable) (g .short) (g .stays-sound)
       (subst
       (λ (m : Reading (List ℕ)).
@@ -90,38 +84,31 @@ module _ (v : View) (f : Facts v) (room : ℕ) where
   answer-law s (message h (response id status state) fs) e = refuse-law v (input s) room 6 (h .stated) (λ q. omega arith) (λ q. omega arith)
   answer-law s (message h (event name id state) fs) e = refuse-law v (input s) room 6 (h .stated) (λ q. omega arith) (λ q. omega arith)
 
-  not-speaking : (n : ℕ) → Lawful v (cause n) room (refuse v 8 0)
-  not-speaking n = refuse-law v (cause n) room 8 0 (λ q. omega arith) (λ q. omega arith)
+  module _ (cause : ℕ) (score : Float) where
+    abbrev Reports : Turn View Reply → Type 0
+    Reports t = Lawful v (report cause score) room t
 
-  -- the active one is done
-  completed-law : (n : ℕ) → n ≤ 7 → (e : Entry) (q : List Entry) → v .queue ≡ e ∷ q → Lawful v (cause n) room (deliver v 0 room (completed e q v n))
-  unfolding speakComplete
-  completed-law n small e q eq =
-      let fits = name-fits (v .name) (f .named) in
-      let id = held-small f (e .id) (rw eq (elem-head (e .id) (ids q))) in
-      let d = gone {x = e .id} (split-none (ids q)) in
-      deliver-law v (cause n) room 0 (completed e q v n) (complete-writable (v .name) (e .id) n fits id small, tt)
-      (alone-short _ (longest-event (v .name) (e .id) n fits id small))
-      (record {
-        named = f .named;
-        idle-empty = while-agrees Speaking (e ∷ q) q (λ t. absurd (false≢true t)) refl;
-        few = let h = rw eq at (f .few) in omega arith;
-        rising = split-ascends (split-swap d) 0 (firstAbove (v .last)) (rw eq at (f .rising));
-        in-range = f .in-range;
-      })
-      (rw eq (some-end (firstAbove (v .last)) (firstAbove (v .last)) d (le-refl _)))
+    refused-report : (n : ℕ) → (n ≡ 0 → ⊥) → (n ≡ 7 → ⊥) → Reports (refuse v n 0)
+    refused-report n not-0 not-7 = refuse-law v (report cause score) room n 0 not-0 not-7
 
-  reported-law : (s : State) (q : List Entry) → v .queue ≡ q → (n : ℕ) → n ≤ 7 → Lawful v (cause n) room (reported s q v room n)
-  reported-law Idle q e n small = not-speaking n
-  reported-law Paused q e n small = not-speaking n
-  reported-law Speaking [] e n small = not-speaking n
-  reported-law Speaking (x ∷ q) e n small = completed-law n small x q e
+    ending-law : (q : List Entry) → v .queue ≡ q → cause < length (causeNames (kind v)) → Reports (ending q v cause score room)
+    ending-law [] e small = refused-report 8 (λ q. omega arith) (λ q. omega arith)
+    ending-law (x ∷ q) e small =
+        let o = completed (kind v) x q v cause score in
+        let g = completed-good v f cause score x q e (kind v) refl small in
+        deliver-law v (report cause score) room 0 o (g .writable) (g .short) (g .stays-sound) (g .effect)
+
+    reported-law : Reports (reported v cause score room)
+    unfolding reported
+    reported-law =
+        choose Reports (isNoCause (kind v) cause) (λ t. refused-report 9 (λ q. omega arith) (λ q. omega arith))
+        (λ t. choose Reports (isNoScore (kind v) score) (λ u. refused-report 11 (λ q. omega arith) (λ q. omega arith))
+        (λ u. choose Reports (awaits (v .state)) (λ w. ending-law (v .queue) refl (leb-false (length (causeNames (kind v))) cause t))
+        (λ w. refused-report 8 (λ q. omega arith) (λ q. omega arith))))
 
   on-sound : (lent : Lent) → Lawful v lent room (onSound lent v room)
   on-sound (input s) = answer-law s (readBytes s) refl
-  on-sound (cause n) =
-      choose (Lawful v (cause n) room) (ltb 7 n) (λ t. refuse-law v (cause n) room 9 0 (λ q. omega arith) (λ q. omega arith))
-      (λ t. reported-law (v .state) (v .queue) refl n (ltb-false 7 n t))
+  on-sound (report cause score) = reported-law cause score
 
 pub call-law : (v : View) (c : Call) → Lawful v (c .lent) (c .room) (call v c)
 unfolding call

@@ -10,8 +10,8 @@ use Rattle.lists.specs.Lists.{elem}
 use Rattle.lists.proofs.Tests.{choose}
 use Rattle.lists.proofs.Membership.{all-elem}
 use Rattle.synth.specs.Channel.{View}
-use Rattle.synth.specs.Request.{Request, isSpeak}
-use Rattle.synth.specs.Judgement.{Verdict, passes, fails, _then_, unless, inSpeak, version, wellFormed, addressed, ours, above, legal, amongSix, valid, content, capacity, early, late}
+use Rattle.synth.specs.Request.{Request, opens}
+use Rattle.synth.specs.Judgement.{Verdict, passes, fails, _then_, unless, inOpening, version, wellFormed, addressed, ours, above, legal, ofKind, valid, content, capacity, early, late}
 
 pub then-passes : (a b : Verdict) → (a then b) ≡ passes → (a ≡ passes) × (b ≡ passes)
 unfolding _then_
@@ -23,8 +23,8 @@ unfolding unless
 unless-passes true n e = refl
 unless-passes false n e = let z : _≡_ {A = ℕ} 0 1 = cc in absurd (omega arith)
 
-pub speak-passes : (r : Request) (v : Verdict) → isSpeak (r .method) ≡ true → inSpeak r v ≡ passes → v ≡ passes
-speak-passes r v s e = go (isSpeak (r .method)) s e
+pub opening-passes : (r : Request) (v : Verdict) → opens (r .method) ≡ true → inOpening r v ≡ passes → v ≡ passes
+opening-passes r v s e = go (opens (r .method)) s e
   where
     go : (b : Bool) → b ≡ true → _≡_ {A = Verdict} (elim b [ true ↦ v | false ↦ passes ]) passes → v ≡ passes
     go true t h = h
@@ -69,8 +69,8 @@ unless-fair b n h = record { honest = go b }
     go true = tt
     go false = h
 
-speak-fair : (r : Request) {v : Verdict} → Fair v → Fair (inSpeak r v)
-speak-fair r h = choose Fair (isSpeak (r .method)) (λ e. h) (λ e. record { honest = tt })
+opening-fair : (r : Request) {v : Verdict} → Fair v → Fair (inOpening r v)
+opening-fair r h = choose Fair (opens (r .method)) (λ e. h) (λ e. record { honest = tt })
 
 module _ (v : View) (r : Request) where
   pub early-fair : Fair (early v r)
@@ -85,16 +85,16 @@ module _ (v : View) (r : Request) where
   content-fair : Fair (content r)
   unfolding content
   content-fair =
-      speak-fair r
+      opening-fair r
       (then-fair (unless-fair _ _ refl)
       (then-fair (unless-fair _ _ refl)
       (unless-fair _ _ refl)))
 
   pub late-fair : Fair (late v r)
-  unfolding late legal amongSix valid capacity
+  unfolding late legal ofKind valid capacity
   late-fair =
       then-fair (unless-fair _ _ refl)
       (then-fair (unless-fair _ _ refl)
       (then-fair (unless-fair _ _ refl)
       (then-fair content-fair
-      (speak-fair r (unless-fair _ _ refl)))))
+      (opening-fair r (unless-fair _ _ refl)))))

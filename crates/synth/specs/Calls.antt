@@ -1,24 +1,27 @@
--- Opening, client message and engine report: document 01, "Refusal numbers".
+-- Opening, client message and engine report: document 01, "Refusal numbers", and document 02, K1.
 use Prim.Native.Nat.{ℕ}
-use mathlib.Core.Bool.{true, false}
+use mathlib.Core.Bool.{Bool, true, false, _||_}
 use mathlib.Core.List.{List, [], _∷_}
-use lib.Dec.{ltb}
+use lib.Dec.{leb, ltb}
+use lib.Ieee.{Float, isNan}
 use lib.ListN.{length}
 use Rattle.message.specs.Message.{Reading, refused, message, request, response, event}
 use Rattle.message.specs.Reading.{readBytes}
 use Rattle.answer.specs.Written.{writtenAll}
+use Rattle.answer.specs.Answers.{causeNames}
+use Rattle.answer.specs.declared.Kind.{Kind}
 use Rattle.ledger.specs.Ledger.{Turn}
-use Rattle.synth.specs.Channel.{View, fresh, wellNamed, sound}
+use Rattle.synth.specs.Channel.{View, kind, is, fresh, wellNamed, sound}
 use Rattle.synth.specs.Request.{requestOf}
 use Rattle.synth.specs.States.{Outcome, judge, completed}
 use Rattle.synth.specs.declared.State.{State}
-use Rattle.synth.specs.declared.State.the-variants.{Idle, Speaking, Paused}
+use Rattle.synth.specs.declared.State.the-variants.{Speaking, Recognizing}
 use Rattle.synth.specs.declared.Entry.{Entry}
 
--- what is handed in: the lent input, or the report's cause
+-- what is handed in: the lent input, or the report's cause and score
 pub data Lent : Type 0 where
   input : List ℕ → Lent
-  cause : ℕ → Lent
+  report : ℕ → Float → Lent
 
 -- a call, with the length of its lent output
 pub record Call : Type 0 where
@@ -45,20 +48,47 @@ deliver v consumed room o = elim (ltb room (length (writtenAll (o .says)))) [
 -- 1 to 5 as reading gives them; 6: framed, a response or event, no request
 abbrev pub answer : View → ℕ → Reading (List ℕ) → Turn View Reply
 answer v room (refused number consumed) = refuse v number consumed
-answer v room (message h (request name id) fs) = deliver v (h .stated) room (judge v (requestOf h name id fs))
+answer v room (message h (request name id) fs) = deliver v (h .stated) room (judge v (requestOf (kind v) h name id fs))
 answer v room (message h (response id status state) fs) = refuse v 6 (h .stated)
 answer v room (message h (event name id state) fs) = refuse v 6 (h .stated)
 
--- 8: engine report while nothing is speaking
-abbrev pub reported : State → List Entry → View → ℕ → ℕ → Turn View Reply
-reported Idle queue v room n = refuse v 8 0
-reported Paused queue v room n = refuse v 8 0
-reported Speaking [] v room n = refuse v 8 0
-reported Speaking (e ∷ queue) v room n = deliver v 0 room (completed e queue v n)
+-- 8: engine report while nothing is speaking, or being recognized
+abbrev pub awaits : State → Bool
+awaits s = is s Speaking || is s Recognizing
+
+-- 11: a score that is no number; a synthesizer's is not judged
+abbrev pub isNoScore : Kind → Float → Bool
+isNoScore Kind.Synthesizer score = false
+isNoScore Kind.Recognizer score = isNan score
+
+-- 9: engine cause above the kind's last one
+abbrev pub isNoCause : Kind → ℕ → Bool
+isNoCause kind cause = leb (length (causeNames kind)) cause
+
+-- the active one ends
+abbrev pub ending : List Entry → View → ℕ → Float → ℕ → Turn View Reply
+ending [] v cause score room = refuse v 8 0
+ending (e ∷ queue) v cause score room = deliver v 0 room (completed (kind v) e queue v cause score)
+
+-- 9, then 11, then 8, then 7
+unfoldable pub reported : View → ℕ → Float → ℕ → Turn View Reply
+reported v cause score room = elim (isNoCause (kind v) cause) [
+  | true ↦ refuse v 9 0
+  | false ↦ elim (isNoScore (kind v) score) [
+    | true ↦ refuse v 11 0
+    | false ↦ elim (awaits (v .state)) [ true ↦ ending (v .queue) v cause score room | false ↦ refuse v 8 0 ]
+  ]
+]
 
 abbrev pub onSound : Lent → View → ℕ → Turn View Reply
 onSound (input s) v room = answer v room (readBytes s)
-onSound (cause n) v room = elim (ltb 7 n) [ true ↦ refuse v 9 0 | false ↦ reported (v .state) (v .queue) v room n ]
+onSound (report cause score) v room = reported v cause score room
+
+-- so many bytes of output never meet refusal 7
+abbrev pub enough : Kind → Lent → ℕ
+enough kind (input s) = 305
+enough Kind.Synthesizer (report cause score) = 305
+enough Kind.Recognizer (report cause score) = 1250
 
 -- a client message or an engine report on a channel; 21 before all
 unfoldable pub call : View → Call → Turn View Reply

@@ -1,18 +1,21 @@
--- A channel as it is viewed: document 01, "Numbers", "Refusal numbers" (soundness, opening) and "States and queue".
+-- A channel as it is viewed: document 01, "Numbers", "Refusal numbers" (soundness, opening) and "States and queue", and
+-- document 02, K1.
 use Prim.Native.Nat.{ℕ, suc}
-use mathlib.Core.Bool.{Bool, _&&_, _||_, Bool·beq}
+use mathlib.Core.Bool.{Bool, true, _&&_, _||_, Bool·beq, not}
 use mathlib.Core.List.{List, [], map}
 use lib.Dec.{leb, eqb}
 use lib.ListN.{length, drop}
 use Rattle.lists.specs.Lists.{run, same, isEmpty, ascends}
-use Rattle.octets.specs.Octets.{bytes, isDigit, isLetter}
+use Rattle.octets.specs.Octets.{isDigit, isLetter}
+use Rattle.answer.specs.declared.Kind.{Kind}
+use Rattle.synth.specs.Kinds.{resource, kindOf, most, stateNumber, isStateOf}
 use Rattle.synth.specs.declared.State.{State}
-use Rattle.synth.specs.declared.State.the-variants.{Idle, Speaking, Paused}
+use Rattle.synth.specs.declared.State.the-variants.{Idle, Speaking, Paused, Recognizing}
 use Rattle.synth.specs.declared.Entry.{Entry}
 use Rattle.synth.specs.declared.LastId.{LastId}
 use Rattle.synth.specs.declared.LastId.the-variants.{NoneSeen, Seen}
 
--- the outstanding SPEAKs stand in `queue`, the active one first
+-- the outstanding requests, SPEAKs or RECOGNIZEs, stand in `queue`, the active one first
 pub record View : Type 0 where
   pub name : List ℕ
   pub state : State
@@ -30,11 +33,14 @@ withLast last v = record { name = v .name; state = v .state; queue = v .queue; l
 abbrev pub fresh : List ℕ → View
 fresh name = record { name = name; state = Idle; queue = []; last = NoneSeen }
 
--- a channel name: 1 to 32 ASCII letters or digits, then `@speechsynth`
+-- a channel name: 1 to 32 ASCII letters or digits, then `@speechsynth` or `@speechrecog`
 unfoldable pub wellNamed : List ℕ → Bool
 wellNamed name =
     let k : ℕ = run (λ b. isLetter b || isDigit b) name in
-    leb 1 k && leb k 32 && same (drop k name) (bytes "@speechsynth")
+    leb 1 k && leb k 32 && same (drop k name) (resource (kindOf name))
+
+abbrev pub kind : View → Kind
+kind v = kindOf (v .name)
 
 abbrev pub ids : List Entry → List ℕ
 ids queue = map (λ (e : Entry). e .id) queue
@@ -43,29 +49,32 @@ ids queue = map (λ (e : Entry). e .id) queue
 abbrev pub held : View → List ℕ
 held v = ids (v .queue)
 
--- states told apart by number: a test names the states that it is about, and no others
-abbrev pub stateNumber : State → ℕ
-stateNumber Idle = 0
-stateNumber Speaking = 1
-stateNumber Paused = 2
-
 abbrev pub is : State → State → Bool
 is s t = eqb (stateNumber s) (stateNumber t)
 
-abbrev pub isIdle : State → Bool
-isIdle s = is s Idle
+-- something is outstanding in these
+abbrev pub isBusy : State → Bool
+isBusy s = is s Speaking || is s Paused || is s Recognizing
+
+-- none seen: idle
+abbrev pub idleUnseen : LastId → State → Bool
+idleUnseen NoneSeen s = is s Idle
+idleUnseen (Seen id) s = true
 
 -- the first id above the last one seen; any is above on a fresh channel
 abbrev pub firstAbove : LastId → ℕ
 firstAbove NoneSeen = 0
 firstAbove (Seen id) = suc id
 
--- Its name is well formed, it is idle exactly when nothing is outstanding, at most 16 are, and their ids rise in queue order with none
--- above the last seen (none seen: idle), which is a request-id.
+-- Its name is well formed, its state is one of its kind's, idle (a synthesizer) exactly when nothing is outstanding, recognizing (a recognizer)
+-- exactly while any is, at most 16 or 8 are, and their ids rise in queue order with none above the last seen (none seen: idle), which is a
+-- request-id.
 unfoldable pub sound : View → Bool
 sound v =
     wellNamed (v .name)
-    && Bool·beq (isIdle (v .state)) (isEmpty (v .queue))
-    && leb (length (v .queue)) 16
+    && isStateOf (kind v) (v .state)
+    && Bool·beq (isBusy (v .state)) (not (isEmpty (v .queue)))
+    && idleUnseen (v .last) (v .state)
+    && leb (length (v .queue)) (most (kind v))
     && ascends 0 (held v) (firstAbove (v .last))
     && leb (firstAbove (v .last)) 4294967296

@@ -1,4 +1,5 @@
--- The ledger of a channel's calls, and demand 3: document 01, "How tight the promises are".
+-- The ledger of a channel's calls, and demand 3: document 01, "How tight the promises are", and
+-- document 02, K1.
 use Prim.Native.Nat.{ℕ}
 use mathlib.Core.Path.{_≡_}
 use mathlib.Core.Bool.{Bool, true, false, _&&_, _||_}
@@ -13,8 +14,8 @@ use Rattle.message.specs.declared.Known.the-variants.{ActiveRequestIdList}
 use Rattle.answer.specs.IdList.{idsOf}
 use Rattle.ledger.specs.Ledger.{Exchange, Balanced, Run, after, trace}
 use Rattle.synth.specs.Channel.{View, held}
-use Rattle.synth.specs.Request.{methodOf, is, isSpeak}
-use Rattle.synth.specs.Calls.{Lent, input, cause, Call, Reply, call, openChannel}
+use Rattle.synth.specs.Request.{methodOf, is, opens}
+use Rattle.synth.specs.Calls.{Lent, input, report, Call, Reply, call, openChannel}
 use Rattle.synth.specs.declared.Method.{Method}
 
 -- the method and the id of the request at the front of the input
@@ -46,10 +47,10 @@ abbrev pub when : Bool → List ℕ → List ℕ
 when true l = l
 when false l = []
 
--- a SPEAK answered 200 or 201 puts its id at the end of accepted
+-- a SPEAK or RECOGNIZE answered 200 or 201 puts its id at the end of accepted
 abbrev pub acceptedBy : Option Asked → Message → List ℕ
 acceptedBy none m = []
-acceptedBy (some a) m = when (isSpeak (a .method) && succeeds (m .start)) (a .id ∷ [])
+acceptedBy (some a) m = when (opens (a .method) && succeeds (m .start)) (a .id ∷ [])
 
 abbrev pub isEnding : Method → Bool
 isEnding m = is m Method.Stop || is m Method.BargeInOccurred
@@ -67,12 +68,12 @@ eventId (event name id state) = id ∷ []
 
 abbrev pub accepting : Lent → Message → List ℕ
 accepting (input s) m = acceptedBy (askedBy (readBytes s)) m
-accepting (cause n) m = []
+accepting (report cause score) m = []
 
 -- a report puts the id of each event written at the end of closed
 abbrev pub closing : Lent → Message → List ℕ
 closing (input s) m = closedBy (askedBy (readBytes s)) m
-closing (cause n) m = eventId (m .start)
+closing (report cause score) m = eventId (m .start)
 
 abbrev pub collected : (Message → List ℕ) → List Message → List ℕ
 collected f [] = []

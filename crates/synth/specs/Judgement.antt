@@ -1,4 +1,5 @@
--- The order of judgement for a request, in eleven steps: document 01, "The order of judgement for a request".
+-- The order of judgement for a request, in eleven steps: document 01, "The order of judgement for a request", and
+-- document 02, K1.
 use Prim.Native.Nat.{ℕ}
 use mathlib.Core.Bool.{Bool, true, false, _&&_, _||_, not}
 use mathlib.Core.Option.{Option, none, some}
@@ -8,10 +9,12 @@ use lib.ListN.{length}
 use Rattle.lists.specs.Lists.{same, isEmpty}
 use Rattle.octets.specs.Octets.{bytes, alike}
 use Rattle.message.specs.Reading.{bodyIn}
-use Rattle.message.specs.declared.Known.the-variants.{ChannelIdentifier, ContentLength, ContentType, ActiveRequestIdList, KillOnBargeIn}
+use Rattle.message.specs.declared.Known.the-variants.{ChannelIdentifier, ContentLength, ContentType, ActiveRequestIdList, KillOnBargeIn, ConfidenceThreshold}
 use Rattle.answer.specs.IdList.{isIdList}
-use Rattle.synth.specs.Channel.{View, isIdle, firstAbove}
-use Rattle.synth.specs.Request.{Request, is, isSpeak, isGood, acting, ignoresAny}
+use Rattle.synth.specs.Levels.{isLevel}
+use Rattle.synth.specs.Kinds.{most}
+use Rattle.synth.specs.Channel.{View, kind, isBusy, firstAbove}
+use Rattle.synth.specs.Request.{Request, is, isSpeak, opens, isGood, acting, ignoresAny}
 use Rattle.synth.specs.declared.Method.{Method}
 
 -- a step passes, or fails with a status
@@ -68,42 +71,54 @@ isFlag v = alike v (bytes "true") || alike v (bytes "false")
 
 -- 6. an acting field's value is illegal: 404
 unfoldable pub legal : Request → Verdict
-legal r = unless (optional isFlag (acting KillOnBargeIn r) && optional isIdList (acting ActiveRequestIdList r)) 404
+legal r =
+    unless (optional isFlag (acting KillOnBargeIn r)
+    && optional isIdList (acting ActiveRequestIdList r)
+    && optional isLevel (acting ConfidenceThreshold r)) 404
 
-abbrev pub isAmongSix : Method → Bool
-isAmongSix m = not (is m Method.Unknown)
+-- a method that the channel's kind lacks has become unknown
+abbrev pub isOfKind : Method → Bool
+isOfKind m = not (is m Method.Unknown)
 
--- 7. method not among the six: 401
-unfoldable pub amongSix : Request → Verdict
-amongSix r = unless (isAmongSix (r .method)) 401
+-- 7. method not among those of the channel's kind: 401
+unfoldable pub ofKind : Request → Verdict
+ofKind r = unless (isOfKind (r .method)) 401
 
--- idle: PAUSE, RESUME and CONTROL are not valid
+-- PAUSE, RESUME, CONTROL and START-INPUT-TIMERS are valid only while something is outstanding
 abbrev pub isValid : Method → Bool → Bool
-isValid m idle = not ((is m Method.Pause || is m Method.Resume || is m Method.Control) && idle)
+isValid m busy = not ((is m Method.Pause || is m Method.Resume || is m Method.Control || is m Method.StartInputTimers) && not busy)
 
 -- 8. method not valid in this state: 402
 unfoldable pub valid : View → Request → Verdict
-valid v r = unless (isValid (r .method) (isIdle (v .state))) 402
+valid v r = unless (isValid (r .method) (isBusy (v .state))) 402
 
 -- `text/plain`, `application/ssml+xml`, `text/uri-list` (any case, nothing after)
 abbrev pub isSpeechType : List ℕ → Bool
 isSpeechType t = alike t (bytes "text/plain") || alike t (bytes "application/ssml+xml") || alike t (bytes "text/uri-list")
 
--- a rule for SPEAK alone
-abbrev pub inSpeak : Request → Verdict → Verdict
-inSpeak r v = elim (isSpeak (r .method)) [ true ↦ v | false ↦ passes ]
+-- `application/srgs+xml`, `text/uri-list` (any case, nothing after)
+abbrev pub isGrammarType : List ℕ → Bool
+isGrammarType t = alike t (bytes "application/srgs+xml") || alike t (bytes "text/uri-list")
 
--- 9. SPEAK without Content-Length or Content-Type 406; with an empty body 408; with another type 409
+-- the types of SPEAK, or of RECOGNIZE
+abbrev pub isTypeOf : Method → List ℕ → Bool
+isTypeOf m t = elim (isSpeak m) [ true ↦ isSpeechType t | false ↦ isGrammarType t ]
+
+-- a rule for SPEAK and RECOGNIZE alone
+abbrev pub inOpening : Request → Verdict → Verdict
+inOpening r v = elim (opens (r .method)) [ true ↦ v | false ↦ passes ]
+
+-- 9. SPEAK or RECOGNIZE without Content-Length or Content-Type 406; with an empty body 408; with another type 409
 unfoldable pub content : Request → Verdict
 content r =
-    inSpeak r
+    inOpening r
     (unless (given anything (acting ContentLength r) && given anything (acting ContentType r)) 406
     then unless (not (isEmpty (bodyIn (r .fields)))) 408
-    then unless (given isSpeechType (acting ContentType r)) 409)
+    then unless (given (isTypeOf (r .method)) (acting ContentType r)) 409)
 
--- 10. SPEAK with 16 outstanding: 407
+-- 10. SPEAK with 16 outstanding, RECOGNIZE with 8: 407
 unfoldable pub capacity : View → Request → Verdict
-capacity v r = inSpeak r (unless (ltb (length (v .queue)) 16) 407)
+capacity v r = inOpening r (unless (ltb (length (v .queue)) (most (kind v))) 407)
 
 -- 11. success: 200, or 201 if a field was ignored
 unfoldable pub success : Request → ℕ
@@ -115,4 +130,4 @@ early v r = version r then wellFormed r then addressed r then ours v r then abov
 
 -- 6 to 10: the last id seen has become this one, whatever the answer
 unfoldable pub late : View → Request → Verdict
-late v r = legal r then amongSix r then valid v r then content r then capacity v r
+late v r = legal r then ofKind r then valid v r then content r then capacity v r

@@ -1,4 +1,5 @@
--- A request as the judgement sees it: its method, and which fields act there (document 01, "Fields").
+-- A request as the judgement sees it: its method, and which fields act there (document 01, "Fields", and document
+-- 02, K1).
 use Prim.Native.Nat.{ℕ}
 use mathlib.Core.Bool.{Bool, true, false, _||_, not}
 use mathlib.Core.Option.{Option, none}
@@ -9,7 +10,9 @@ use Rattle.octets.specs.Octets.{bytes}
 use Rattle.message.specs.Message.{Fields, bad, good, fieldsIn, Head}
 use Rattle.message.specs.Known.{among, namesOf, valueOf}
 use Rattle.message.specs.declared.Known.{Known}
-use Rattle.message.specs.declared.Known.the-variants.{ChannelIdentifier, ContentLength, ContentType, ActiveRequestIdList, KillOnBargeIn, ProxySyncId, LoggingTag, Unknown}
+use Rattle.message.specs.declared.Known.the-variants.{ChannelIdentifier, ContentLength, ContentType, ActiveRequestIdList, KillOnBargeIn, ProxySyncId, LoggingTag, Unknown, ConfidenceThreshold}
+use Rattle.answer.specs.declared.Kind.{Kind}
+use Rattle.synth.specs.Kinds.{methodNumber, methodIn}
 use Rattle.synth.specs.declared.Method.{Method}
 
 abbrev pub methodText : Method → List ℕ
@@ -20,16 +23,8 @@ methodText Method.Resume = bytes "RESUME"
 methodText Method.Control = bytes "CONTROL"
 methodText Method.BargeInOccurred = bytes "BARGE-IN-OCCURRED"
 methodText Method.Unknown = []
-
--- methods told apart by number: a test names the methods that it is about, and no others
-abbrev pub methodNumber : Method → ℕ
-methodNumber Method.Unknown = 0
-methodNumber Method.Speak = 1
-methodNumber Method.Stop = 2
-methodNumber Method.Pause = 3
-methodNumber Method.Resume = 4
-methodNumber Method.Control = 5
-methodNumber Method.BargeInOccurred = 6
+methodText Method.Recognize = bytes "RECOGNIZE"
+methodText Method.StartInputTimers = bytes "START-INPUT-TIMERS"
 
 abbrev pub is : Method → Method → Bool
 is m n = eqb (methodNumber m) (methodNumber n)
@@ -40,11 +35,18 @@ isSpeak m = is m Method.Speak
 abbrev pub isStop : Method → Bool
 isStop m = is m Method.Stop
 
+abbrev pub isRecognize : Method → Bool
+isRecognize m = is m Method.Recognize
+
+-- SPEAK and RECOGNIZE open a request that stays outstanding
+abbrev pub opens : Method → Bool
+opens m = isSpeak m || isRecognize m
+
 abbrev pub orElse : Bool → Method → Method → Method
 orElse true m other = m
 orElse false m other = other
 
--- the method of that name
+-- the method of that name, whatever the kind of the channel
 unfoldable pub methodOf : List ℕ → Method
 methodOf name =
     orElse (same name (methodText Method.Speak)) Method.Speak
@@ -53,7 +55,9 @@ methodOf name =
     (orElse (same name (methodText Method.Resume)) Method.Resume
     (orElse (same name (methodText Method.Control)) Method.Control
     (orElse (same name (methodText Method.BargeInOccurred)) Method.BargeInOccurred
-    Method.Unknown)))))
+    (orElse (same name (methodText Method.Recognize)) Method.Recognize
+    (orElse (same name (methodText Method.StartInputTimers)) Method.StartInputTimers
+    Method.Unknown)))))))
 
 pub record Request : Type 0 where
   pub major : ℕ
@@ -62,22 +66,24 @@ pub record Request : Type 0 where
   pub id : ℕ
   pub fields : Fields (List ℕ)
 
-abbrev pub requestOf : Head → List ℕ → ℕ → Fields (List ℕ) → Request
-requestOf h name id fs = record { major = h .major; minor = h .minor; method = methodOf name; id = id; fields = fs }
+-- a request to a channel of that kind
+abbrev pub requestOf : Kind → Head → List ℕ → ℕ → Fields (List ℕ) → Request
+requestOf kind h name id fs = record { major = h .major; minor = h .minor; method = methodIn kind (methodOf name); id = id; fields = fs }
 
--- Content-Type and Kill-On-Barge-In act in SPEAK only, Active-Request-Id-List in STOP only, Channel-Identifier and
--- Content-Length everywhere, the last two of the seven nowhere
+-- Content-Type acts in SPEAK and RECOGNIZE only, Kill-On-Barge-In in SPEAK only, Confidence-Threshold in RECOGNIZE only,
+-- Active-Request-Id-List in STOP only, Channel-Identifier and Content-Length everywhere, Proxy-Sync-Id and Logging-Tag nowhere
 abbrev pub acts : Method → Known → Bool
 acts m ChannelIdentifier = true
 acts m ContentLength = true
-acts m ContentType = isSpeak m
+acts m ContentType = opens m
 acts m ActiveRequestIdList = isStop m
 acts m KillOnBargeIn = isSpeak m
 acts m ProxySyncId = false
 acts m LoggingTag = false
 acts m Unknown = false
+acts m ConfidenceThreshold = isRecognize m
 
--- the last two of the seven are never "ignored"; any other field that does not act is
+-- Proxy-Sync-Id and Logging-Tag are never "ignored"; any other field that does not act is
 abbrev pub ignored : Method → Known → Bool
 ignored m k = not (acts m k || among k (ProxySyncId ∷ LoggingTag ∷ []))
 

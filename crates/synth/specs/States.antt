@@ -1,21 +1,25 @@
--- States and queue, method by method: document 01, "States and queue".
+-- States and queue, method by method: document 01, "States and queue", and document 02, K1.
 use Prim.Native.Nat.{ℕ}
-use mathlib.Core.Bool.{Bool, true, false, not}
+use mathlib.Core.Bool.{Bool, true, false, not, _&&_, _||_}
 use mathlib.Core.Option.{Option, none, some}
 use mathlib.Core.List.{List, [], _∷_, _++_}
+use lib.Dec.{eqb}
+use lib.Ieee.{Float, lt}
 use Rattle.lists.specs.Lists.{elem, keep}
 use Rattle.octets.specs.Octets.{bytes, alike}
 use Rattle.message.specs.Message.{Message}
-use Rattle.message.specs.declared.Known.the-variants.{ActiveRequestIdList, KillOnBargeIn}
+use Rattle.message.specs.declared.Known.the-variants.{ActiveRequestIdList, KillOnBargeIn, ConfidenceThreshold}
 use Rattle.message.specs.declared.RequestState.{RequestState}
 use Rattle.message.specs.declared.RequestState.the-variants.{Pending, InProgress, Complete}
 use Rattle.answer.specs.IdList.{idsOf}
-use Rattle.answer.specs.Answers.{response, speakComplete}
-use Rattle.synth.specs.Channel.{View, withQueue, withLast, ids, held}
+use Rattle.answer.specs.Answers.{response, completes}
+use Rattle.answer.specs.declared.Kind.{Kind}
+use Rattle.synth.specs.Levels.{single, levelIn}
+use Rattle.synth.specs.Channel.{View, withQueue, withLast, ids, held, is, isBusy}
 use Rattle.synth.specs.Request.{Request, acting}
 use Rattle.synth.specs.Judgement.{Verdict, passes, fails, success, early, late}
 use Rattle.synth.specs.declared.State.{State}
-use Rattle.synth.specs.declared.State.the-variants.{Idle, Speaking, Paused}
+use Rattle.synth.specs.declared.State.the-variants.{Idle, Speaking, Paused, Recognizing, Recognized}
 use Rattle.synth.specs.declared.Method.{Method}
 use Rattle.synth.specs.declared.Entry.{Entry}
 use Rattle.synth.specs.declared.LastId.the-variants.{Seen}
@@ -39,23 +43,33 @@ abbrev pub killable : Option (List ℕ) → Bool
 killable none = true
 killable (some v) = alike v (bytes "true")
 
--- what is kept of an outstanding SPEAK
+abbrev pub orZero : Option ℕ → ℕ
+orZero none = 0
+orZero (some bits) = bits
+
+-- 0 where the field did not come, which has the bits 0
+abbrev pub thresholdIn : Option (List ℕ) → ℕ
+thresholdIn none = 0
+thresholdIn (some v) = orZero (levelIn v)
+
+-- what is kept of an outstanding SPEAK or RECOGNIZE
 abbrev pub entryOf : Request → Entry
-entryOf r = record { id = r .id; kill = killable (acting KillOnBargeIn r) }
+entryOf r = record { id = r .id; kill = killable (acting KillOnBargeIn r); threshold = thresholdIn (acting ConfidenceThreshold r) }
 
 abbrev pub joined : View → Request → List Entry
 joined v r = v .queue ++ entryOf r ∷ []
 
--- SPEAK: idle, becomes active and speaking, IN-PROGRESS; otherwise joins the end, PENDING
-abbrev pub speak : State → View → Request → Outcome
-speak Idle v r = succeeded v r InProgress [] Speaking (joined v r)
-speak Speaking v r = succeeded v r Pending [] Speaking (joined v r)
-speak Paused v r = succeeded v r Pending [] Paused (joined v r)
+-- SPEAK and RECOGNIZE: none is outstanding, becomes active, and speaking or recognizing, IN-PROGRESS; otherwise joins the end, PENDING
+abbrev pub enter : State → View → Request → Outcome
+enter active v r = elim (isBusy (v .state)) [
+  | true ↦ succeeded v r Pending [] (v .state) (joined v r)
+  | false ↦ succeeded v r InProgress [] active (joined v r)
+]
 
--- the same state while any is outstanding; idle when none remains
-abbrev pub whileAny : State → List Entry → State
-whileAny state [] = Idle
-whileAny state (e ∷ queue) = state
+-- the same state while any is outstanding; another when none remains
+abbrev pub whileAny : State → State → List Entry → State
+whileAny last state [] = last
+whileAny last state (e ∷ queue) = state
 
 -- without a list all outstanding end; with one, those named
 abbrev pub ends : Option (List ℕ) → Entry → Bool
@@ -66,7 +80,7 @@ ends (some v) e = elem (e .id) (idsOf v)
 abbrev pub stop : Option (List ℕ) → View → Request → Outcome
 stop list v r =
     let rest : List Entry = keep (λ e. not (ends list e)) (v .queue) in
-    succeeded v r Complete (ids (keep (ends list) (v .queue))) (whileAny (v .state) rest) rest
+    succeeded v r Complete (ids (keep (ends list) (v .queue))) (whileAny Idle (v .state) rest) rest
 
 -- BARGE-IN-OCCURRED: the active one killable, all outstanding end, whatever their own setting; otherwise nothing ends
 abbrev pub bargeIn : List Entry → View → Request → Outcome
@@ -86,24 +100,31 @@ abbrev pub pause : View → Request → Outcome
 pause v r = succeeded v r Complete (active (v .queue)) Paused (v .queue)
 
 -- RESUME: from paused: speaking, listing the active id; from speaking: no change, no list (house)
-abbrev pub resume : State → View → Request → Outcome
-resume Idle v r = succeeded v r Complete [] Idle (v .queue)
-resume Speaking v r = succeeded v r Complete [] Speaking (v .queue)
-resume Paused v r = succeeded v r Complete (active (v .queue)) Speaking (v .queue)
+abbrev pub resume : View → Request → Outcome
+resume v r = elim (is (v .state) Paused) [
+  | true ↦ succeeded v r Complete (active (v .queue)) Speaking (v .queue)
+  | false ↦ succeeded v r Complete [] (v .state) (v .queue)
+]
 
 -- CONTROL: no change, listing the active id
 abbrev pub control : View → Request → Outcome
 control v r = succeeded v r Complete (active (v .queue)) (v .state) (v .queue)
 
+-- START-INPUT-TIMERS: no change, no list
+abbrev pub startTimers : View → Request → Outcome
+startTimers v r = succeeded v r Complete [] (v .state) (v .queue)
+
 -- a request that passed every judgement
 unfoldable pub act : Method → View → Request → Outcome
-act Method.Speak v r = speak (v .state) v r
+act Method.Speak v r = enter Speaking v r
 act Method.Stop v r = stop (acting ActiveRequestIdList r) v r
 act Method.Pause v r = pause v r
-act Method.Resume v r = resume (v .state) v r
+act Method.Resume v r = resume v r
 act Method.Control v r = control v r
 act Method.BargeInOccurred v r = bargeIn (v .queue) v r
 act Method.Unknown v r = failed v r 401
+act Method.Recognize v r = enter Recognizing v r
+act Method.StartInputTimers v r = startTimers v r
 
 abbrev pub afterLate : Verdict → View → Request → Outcome
 afterLate passes v r = act (r .method) v r
@@ -117,7 +138,32 @@ afterEarly (fails status) v r = failed v r status
 unfoldable pub judge : View → Request → Outcome
 judge v r = afterEarly (early v r) v r
 
--- an engine report with cause 0 to 7 ends the active one; the next becomes active and speaking, or idle
-abbrev pub completed : Entry → List Entry → View → ℕ → Outcome
-completed e queue v cause =
-    record { says = speakComplete (v .name) (e .id) cause ∷ []; next = withQueue (whileAny Speaking queue) queue v }
+-- the active one ends with its event; the next becomes active, or none is left
+abbrev pub endsOne : Kind → State → State → Entry → List Entry → View → ℕ → Outcome
+endsOne kind last state e queue v cause =
+    record { says = completes kind (v .name) (e .id ∷ []) cause; next = withQueue (whileAny last state queue) queue v }
+
+-- the waiting ones end too, each with event 011 in queue order
+abbrev pub endsAll : Kind → State → Entry → List Entry → View → ℕ → Outcome
+endsAll kind last e queue v cause =
+    record { says = completes kind (v .name) (ids (e ∷ queue)) cause; next = withQueue last [] v }
+
+-- 000 and 008
+abbrev pub isMatch : ℕ → Bool
+isMatch cause = eqb cause 0 || eqb cause 8
+
+-- a 000 or 008 whose score is not greater than the threshold counts as 001
+abbrev pub counted : ℕ → ℕ → Float → ℕ
+counted threshold cause score = elim (isMatch cause && not (lt (single threshold) score)) [ true ↦ 1 | false ↦ cause ]
+
+-- with 000 or 008 the first waiting one becomes active; any other cause also ends the waiting ones. None left: recognized
+abbrev pub recognized : Entry → List Entry → View → ℕ → Outcome
+recognized e queue v cause = elim (isMatch cause) [
+  | true ↦ endsOne Kind.Recognizer Recognized Recognizing e queue v cause
+  | false ↦ endsAll Kind.Recognizer Recognized e queue v cause
+]
+
+-- an engine report ends the active one: on a synthesizer the next becomes active and speaking, or idle
+abbrev pub completed : Kind → Entry → List Entry → View → ℕ → Float → Outcome
+completed Kind.Synthesizer e queue v cause score = endsOne Kind.Synthesizer Idle Speaking e queue v cause
+completed Kind.Recognizer e queue v cause score = recognized e queue v (counted (e .threshold) cause score)

@@ -1,12 +1,15 @@
-// One speechsynth channel: its states and queue, the order of judgement, and the calls on it.
+// A channel of either kind: its states and queue, the order of judgement, and the calls on it.
 
+// A synthesizer is idle, speaking or paused, a recognizer idle, recognizing or recognized.
 pub enum State {
     Idle,
     Speaking,
     Paused,
+    Recognizing,
+    Recognized,
 }
 
-// The methods of document 01; every other name is unknown.
+// The methods of document 01 and of K1; every other name is unknown.
 pub enum Method {
     Speak,
     Stop,
@@ -15,12 +18,16 @@ pub enum Method {
     Control,
     BargeInOccurred,
     Unknown,
+    Recognize,
+    StartInputTimers,
 }
 
-// An outstanding SPEAK: its request-id, and whether barge-in kills it.
+// An outstanding request: its request-id, whether barge-in kills it, and the threshold of its score, by the bits of the
+// single-precision number: any bits that C hands in come back as they were.
 pub struct Entry {
     pub id: u32,
     pub kill: bool,
+    pub threshold: u32,
 }
 
 // The last request-id seen on a channel.

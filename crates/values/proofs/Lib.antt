@@ -1,1 +1,1 @@
-pub mod Speech
+pub mod Openings

@@ -7,7 +7,8 @@ use lib.Dec.{eqb}
 use Rattle.octets.specs.Octets.{bytes, alike}
 use Rattle.message.specs.Message.{part}
 use Rattle.synth.specs.Judgement as J
-use Rattle.synth.specs.Judgement.{passes, fails, _then_, unless, given, anything, isSpeechType}
+use Rattle.synth.specs.Judgement.{passes, fails, _then_, unless, given, anything, isTypeOf}
+use Rattle.synth.specs.declared.Method.{Method}
 use Rattle.values.specs.declared.Given.{Given}
 use Rattle.values.specs.declared.Kill.{Kill}
 use Rattle.values.specs.declared.Verdict.{Verdict}
@@ -19,10 +20,10 @@ givenOf f (Given.At p) = some (part f p)
 
 -- Kill-On-Barge-In defaults to true; it is `true` or `false` in any case
 abbrev pub killOf : Option (List ℕ) → Kill
-killOf none = Kill.Killable
+killOf none = Kill.Of true
 killOf (some v) = elim (alike v (bytes "true")) [
-  | true ↦ Kill.Killable
-  | false ↦ elim (alike v (bytes "false")) [ true ↦ Kill.Spared | false ↦ Kill.Illegal ]
+  | true ↦ Kill.Of true
+  | false ↦ elim (alike v (bytes "false")) [ true ↦ Kill.Of false | false ↦ Kill.Illegal ]
 ]
 
 -- a verdict as the judgement has it: the paper's number of its status
@@ -30,13 +31,14 @@ abbrev pub verdictOf : Verdict → J.Verdict
 verdictOf Verdict.Passes = passes
 verdictOf (Verdict.Fails status) = fails (status .code)
 
--- judgement 9 of a SPEAK with Content-Length, whose type is t
-abbrev pub typedContent : List ℕ → ℕ → J.Verdict
-typedContent t body = unless (not (eqb body 0)) 408 then unless (isSpeechType t) 409
+-- judgement 9 of a SPEAK or RECOGNIZE with Content-Length, whose type is t
+abbrev pub typedContent : Method → List ℕ → ℕ → J.Verdict
+typedContent m t body = unless (not (eqb body 0)) 408 then unless (isTypeOf m t) 409
 
--- judgement 9 of a SPEAK, by the values of Content-Length and Content-Type and the number of bytes in the body
-abbrev pub contentBy : Option (List ℕ) → Option (List ℕ) → ℕ → J.Verdict
-contentBy length media body =
+-- judgement 9 of a SPEAK or RECOGNIZE, by the values of Content-Length and Content-Type and the number of bytes in the
+-- body
+abbrev pub contentBy : Method → Option (List ℕ) → Option (List ℕ) → ℕ → J.Verdict
+contentBy m length media body =
     unless (given anything length && given anything media) 406
     then unless (not (eqb body 0)) 408
-    then unless (given isSpeechType media) 409
+    then unless (given (isTypeOf m) media) 409

@@ -1,7 +1,10 @@
-// What the value of a field that acts in a request says: document 01, "Fields", and judgements 6 and 9.
+// What the value of a field that acts in a request says: document 01, "Fields", and judgements 6 and 9, and
+// document 02, K1.
 ghost use mathlib.Core.Path.{_≡_};
 ghost use mathlib.Core.Option.{some};
-ghost use Rattle.synth.specs.Judgement.{isSpeechType};
+ghost use Rattle.synth.specs.Request.{isSpeak};
+ghost use Rattle.synth.specs.Judgement.{isSpeechType, isGrammarType, isTypeOf};
+ghost use Rattle.levels.specs.Thresholds.{thresholdOf};
 ghost use Rattle.values.specs.Values.{givenOf, killOf, verdictOf, typedContent, contentBy};
 ghost use Rattle.values.specs.Steps.{meets, givenBy};
 
@@ -11,11 +14,10 @@ pub enum Given {
     At(message::Span),
 }
 
-// What Kill-On-Barge-In says: `true` or nothing, `false`, or neither.
+// What Kill-On-Barge-In says: whether barge-in kills the request, or neither `true` nor `false`.
 pub enum Kill {
-    Killable,
-    Spared,
     Illegal,
+    Of(bool),
 }
 
 // A judgement passes, or fails with a status.
@@ -46,10 +48,10 @@ fn flag(v: &[u8]) -> Kill
     ensures { λ r. ⌜ r ≡ killOf (some (now (v .entry))) ⌝ }
 {
     if octets::alike(v, b"true") {
-        return Kill::Killable;
+        return Kill::Of(true);
     }
     if octets::alike(v, b"false") {
-        return Kill::Spared;
+        return Kill::Of(false);
     }
     Kill::Illegal
 }
@@ -59,12 +61,22 @@ pub fn kill_of(f: &[u8], g: Given) -> Kill
     ensures { λ r. ⌜ r ≡ killOf (givenOf (now (f .entry)) g) ⌝ }
 {
     match g {
-        Given::Nothing => Kill::Killable,
+        Given::Nothing => Kill::Of(true),
         Given::At(p) => flag(message::part(f, p)),
     }
 }
 
-// One of the three types, in any case and with nothing after.
+// Confidence-Threshold as a level: 0 where it is not given.
+pub fn level(f: &[u8], g: Given) -> levels::Threshold
+    ensures { λ r. ⌜ r ≡ thresholdOf (givenOf (now (f .entry)) g) ⌝ }
+{
+    match g {
+        Given::Nothing => levels::Threshold::Of(0),
+        Given::At(p) => levels::level_in(message::part(f, p)),
+    }
+}
+
+// One of the three types of a SPEAK, in any case and with nothing after.
 fn is_speech_type(t: &[u8]) -> bool
     ensures { λ r. ⌜ r ≡ isSpeechType (now (t .entry)) ⌝ }
 {
@@ -77,28 +89,64 @@ fn is_speech_type(t: &[u8]) -> bool
     octets::alike(t, b"text/uri-list")
 }
 
-// Judgement 9 of a SPEAK with Content-Length, and with the type `t` for its `body` bytes.
-fn typed_content(t: &[u8], body: usize) -> Verdict
-    ensures { λ r. ⌜ verdictOf r ≡ typedContent (now (t .entry)) body ⌝ }
+// One of the two types of a RECOGNIZE.
+fn is_grammar_type(t: &[u8]) -> bool
+    ensures { λ r. ⌜ r ≡ isGrammarType (now (t .entry)) ⌝ }
+{
+    if octets::alike(t, b"application/srgs+xml") {
+        return true;
+    }
+    octets::alike(t, b"text/uri-list")
+}
+
+fn is_speak(m: synth::Method) -> bool
+    ensures { λ r. ⌜ r ≡ isSpeak m ⌝ }
+{
+    match m {
+        synth::Method::Speak => true,
+        synth::Method::Stop => false,
+        synth::Method::Pause => false,
+        synth::Method::Resume => false,
+        synth::Method::Control => false,
+        synth::Method::BargeInOccurred => false,
+        synth::Method::Unknown => false,
+        synth::Method::Recognize => false,
+        synth::Method::StartInputTimers => false,
+    }
+}
+
+fn is_type_of(m: synth::Method, t: &[u8]) -> bool
+    ensures { λ r. ⌜ r ≡ isTypeOf m (now (t .entry)) ⌝ }
+{
+    if is_speak(m) {
+        return is_speech_type(t);
+    }
+    is_grammar_type(t)
+}
+
+// Judgement 9 of a SPEAK or RECOGNIZE with Content-Length, and with the type `t` for its `body` bytes.
+fn typed_content(m: synth::Method, t: &[u8], body: usize) -> Verdict
+    ensures { λ r. ⌜ verdictOf r ≡ typedContent m (now (t .entry)) body ⌝ }
 {
     if body == 0 {
         return Verdict::Fails(answer::Status::no_content());
     }
-    if !is_speech_type(t) {
+    if !is_type_of(m, t) {
         return Verdict::Fails(answer::Status::unsupported_value());
     }
     Verdict::Passes
 }
 
-// Judgement 9 of a SPEAK, by the values of Content-Length and Content-Type.
-pub fn content(f: &[u8], length: Given, media: Given, body: usize) -> Verdict
-    ensures { λ r. ⌜ verdictOf r ≡ contentBy (givenOf (now (f .entry)) length) (givenOf (now (f .entry)) media) body ⌝ }
+// Judgement 9 of a SPEAK or RECOGNIZE, by the values of Content-Length and Content-Type.
+pub fn content(m: synth::Method, f: &[u8], length: Given, media: Given, body: usize) -> Verdict
+    ensures { λ r. ⌜ verdictOf r
+        ≡ contentBy m (givenOf (now (f .entry)) length) (givenOf (now (f .entry)) media) body ⌝ }
 {
     match length {
         Given::Nothing => Verdict::Fails(answer::Status::field_missing()),
         Given::At(_) => match media {
             Given::Nothing => Verdict::Fails(answer::Status::field_missing()),
-            Given::At(p) => typed_content(message::part(f, p), body),
+            Given::At(p) => typed_content(m, message::part(f, p), body),
         },
     }
 }

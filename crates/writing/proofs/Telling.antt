@@ -10,7 +10,8 @@ use lib.ListN.{length, drop, set}
 use borrow.Author.Tests.{lt-ltb, le-ltb}
 use Rattle.message.specs.declared.RequestState.{RequestState}
 use Rattle.answer.specs.Written as W
-use Rattle.answer.specs.Answers.{response, speakComplete}
+use Rattle.answer.specs.Answers.{response, complete}
+use Rattle.answer.specs.declared.Kind.{Kind}
 use Rattle.output.specs.Delivery.{counted, delivered}
 use Rattle.answer.specs.declared.Status.{Status}
 use Rattle.answer.specs.declared.Answer.{Answer}
@@ -77,8 +78,8 @@ module _ (name place out : List ℕ) (id cause : ℕ) where
   cause-refused h = rw (lt-ltb 7 cause (omega arith), wroteEvent)
 
   pub completed : cause < 8 → (w : Written) (o : List ℕ) (t : Told)
-      → w ≡ counted (W.written (speakComplete name id cause)) out
-      → o ≡ delivered (W.written (speakComplete name id cause)) out
+      → w ≡ counted (W.written (complete Kind.Synthesizer name id cause)) out
+      → o ≡ delivered (W.written (complete Kind.Synthesizer name id cause)) out
       → t ≡ told w place
       → record { number = t .number; written = t .written; out = o } ≡ wroteEvent name id cause place out
   completed h w o t e f r = rw (le-ltb 7 cause (omega arith), wroteEvent) (tells _ place out w o t e f r)

@@ -8,7 +8,8 @@ use lib.ListN.{length, drop, set}
 use Rattle.message.specs.declared.RequestState.{RequestState}
 use Rattle.message.specs.declared.RequestState.the-variants.{Pending, InProgress, Complete}
 use Rattle.answer.specs.Written as W
-use Rattle.answer.specs.Answers.{response, speakComplete}
+use Rattle.answer.specs.Answers.{response, complete}
+use Rattle.answer.specs.declared.Kind.{Kind}
 use Rattle.output.specs.Delivery.{numberOf, writtenOf}
 use Rattle.output.specs.declared.Written.{Written}
 
@@ -46,9 +47,9 @@ abbrev pub wroteResponse : List ℕ → ℕ → ℕ → Option RequestState → 
 wroteResponse name id status none ids place out = record { number = 9; written = set place 0 0; out = out }
 wroteResponse name id status (some state) ids place out = wrote (W.written (response name id status state ids)) place out
 
--- the event that ends request id; 9 where there is no such cause
+-- the event that ends the SPEAK with that id; 9 where there is no such cause
 abbrev pub wroteEvent : List ℕ → ℕ → ℕ → List ℕ → List ℕ → WriteCall
 wroteEvent name id cause place out = elim (ltb 7 cause) [
   | true ↦ record { number = 9; written = set place 0 0; out = out }
-  | false ↦ wrote (W.written (speakComplete name id cause)) place out
+  | false ↦ wrote (W.written (complete Kind.Synthesizer name id cause)) place out
 ]

@@ -58,7 +58,7 @@ pub extern "C" fn klarvesimo_write_response(
     }
 }
 
-// The event that ends a request; 9 where there is no such cause.
+// The event that ends a SPEAK; 9 where there is no such cause.
 #[no_mangle]
 pub extern "C" fn klarvesimo_write_event(
     name: &[u8],
@@ -70,10 +70,10 @@ pub extern "C" fn klarvesimo_write_event(
     ensures { λ r. ⌜ record { number = r; written = now (written .exit); out = now (out .exit) }
         ≡ wroteEvent (now (name .entry)) id cause (now (written .entry)) (now (out .entry)) ⌝ }
 {
-    if answer::CAUSES <= cause {
+    if answer::SYNTHESIZER_CAUSES <= cause {
         written[0] = 0;
         return 9;
     }
-    let w = output::complete(out, name, id, cause);
+    let w = output::speak_complete(out, name, id, cause);
     tell(w, written)
 }

@@ -41,8 +41,10 @@ impl Batch {
         self.hex(bytes);
     }
 
-    pub fn report(&mut self, cause: u32, room: usize) {
-        let words = format!("report {cause} {room}");
+    /// The score's bits, where it is given.
+    pub fn report(&mut self, cause: u32, room: usize, score: Option<u32>) {
+        let score = score.map_or(String::new(), |bits| format!(" {bits:08x}"));
+        let words = format!("report {cause} {room}{score}");
         self.text.extend_from_slice(words.as_bytes());
         self.end(true);
     }
@@ -89,8 +91,8 @@ impl Batch {
         let begin = self.text.len();
         let Kept(numbers) = given.kept;
         self.text.extend_from_slice(b"channel ");
-        let queue = &numbers[kept::QUEUE..][..given.entries];
-        put_words(&mut self.text, &given.kept, &given.name, queue);
+        let queue = given.kept.entries(given.entries);
+        put_words(&mut self.text, &given.kept, &given.name, &queue);
         if numbers[kept::COUNT] != given.entries as u64 {
             let count = format!(" {}", numbers[kept::COUNT]);
             self.text.extend_from_slice(count.as_bytes());

@@ -1,6 +1,7 @@
 //! Drafts of messages: the parts from which the bytes are put together.
 
 use super::random::Random;
+use crate::channel::Kind;
 use crate::writing::with_own_digits;
 
 /// How the stated length is written.
@@ -93,7 +94,29 @@ impl Draft {
     }
 }
 
-pub const METHODS: [&str; 6] = [
+/// The methods of a kind. The first brings a body.
+pub fn methods(kind: Kind) -> &'static [&'static str] {
+    match kind {
+        Kind::Synthesizer => &SPEECH_METHODS,
+        Kind::Recognizer => &RECOGNITION_METHODS,
+    }
+}
+
+/// A method that the kind lacks: the other's, or nobody's.
+pub fn other_method(random: &mut Random, kind: Kind) -> &'static str {
+    let others = match kind {
+        Kind::Synthesizer => &["RECOGNIZE", "RECOGNIZE", "START-INPUT-TIMERS"][..],
+        Kind::Recognizer => &["SPEAK", "SPEAK", "PAUSE", "CONTROL", "BARGE-IN-OCCURRED"],
+    };
+    match random.chance(50) {
+        true => random.pick(others),
+        false => random.pick(&UNKNOWN_METHODS),
+    }
+}
+
+const RECOGNITION_METHODS: [&str; 3] = ["RECOGNIZE", "STOP", "START-INPUT-TIMERS"];
+
+const SPEECH_METHODS: [&str; 6] = [
     "SPEAK",
     "STOP",
     "PAUSE",
@@ -102,11 +125,14 @@ pub const METHODS: [&str; 6] = [
     "BARGE-IN-OCCURRED",
 ];
 
-pub const UNKNOWN_METHODS: [&str; 12] = [
+const UNKNOWN_METHODS: [&str; 15] = [
     "SET-PARAMS",
     "GET-PARAMS",
     "DEFINE-LEXICON",
-    "RECOGNIZE",
+    "DEFINE-GRAMMAR",
+    "INTERPRET",
+    "RECOGNIZ",
+    "START-INPUT-TIMER",
     "SPEA",
     "SPEAKS",
     "STOP-",
@@ -130,10 +156,11 @@ const IDS: [&str; 10] = [
     "999999999",
     "1000000000",
 ];
-pub const NAMES: [&str; 4] = [
+pub const NAMES: [&str; 5] = [
     "7f3a@speechsynth",
     "32AECB23433802@speechsynth",
     "a@speechsynth",
+    "32AECB23433801@speechrecog",
     "0123456789abcdefABCDEF0123456789@speechsynth",
 ];
 const BODIES: [&[u8]; 6] = [
@@ -146,10 +173,13 @@ const BODIES: [&[u8]; 6] = [
 ];
 
 /// Field lines of every sort, all well formed; values that judgement may dislike.
-pub const SOME_FIELDS: [&[u8]; 16] = [
+pub const SOME_FIELDS: [&[u8]; 19] = [
     b"Kill-On-Barge-In:true",
     b"Kill-On-Barge-In: FALSE",
     b"kill-on-barge-in:perhaps",
+    b"Confidence-Threshold:0.5",
+    b"CONFIDENCE-threshold: 2 ",
+    b"Cancel-If-Queue:true",
     b"Active-Request-Id-List:1,2,3",
     b"ACTIVE-REQUEST-ID-LIST: 1, 2 ",
     b"Proxy-Sync-Id:987654321",
@@ -198,10 +228,11 @@ pub fn field_name(field: &[u8]) -> &[u8] {
 fn start_line(random: &mut Random) -> Vec<u8> {
     let id = id(random);
     let state = random.pick(&STATES);
-    let line = match random.weighted(&[50, 10, 20, 20]) {
-        0 => format!("{} {id}", random.pick(&METHODS)),
-        1 => format!("{} {id}", random.pick(&UNKNOWN_METHODS)),
-        2 => format!("{id} {:03} {state}", status(random)),
+    let line = match random.weighted(&[35, 15, 10, 20, 20]) {
+        0 => format!("{} {id}", random.pick(&SPEECH_METHODS)),
+        1 => format!("{} {id}", random.pick(&RECOGNITION_METHODS)),
+        2 => format!("{} {id}", random.pick(&UNKNOWN_METHODS)),
+        3 => format!("{id} {:03} {state}", status(random)),
         _ => format!("{} {id} {state}", event(random)),
     };
     line.into_bytes()
@@ -223,7 +254,13 @@ fn status(random: &mut Random) -> usize {
 }
 
 fn event(random: &mut Random) -> &'static str {
-    random.pick(&["SPEAK-COMPLETE", "SPEECH-MARKER", "E", "START-OF-INPUT"])
+    random.pick(&[
+        "SPEAK-COMPLETE",
+        "RECOGNITION-COMPLETE",
+        "SPEECH-MARKER",
+        "E",
+        "START-OF-INPUT",
+    ])
 }
 
 pub fn body(random: &mut Random) -> Vec<u8> {

@@ -1,9 +1,9 @@
 //! Requests on a channel: good ones, and ones that fail a chosen judgement.
 
 use super::damage::{content_length, empty_line, malformed_line};
-use super::draft::{body, Draft, METHODS, UNKNOWN_METHODS};
+use super::draft::{body, methods, other_method, Draft};
 use super::random::Random;
-use crate::channel::Channel;
+use crate::channel::{Channel, Kind};
 
 /// A request in the making.
 pub struct Request {
@@ -18,14 +18,21 @@ pub struct Request {
     pub malformed: bool,
 }
 
-const TYPES: [&str; 5] = [
+const SPEECH_TYPES: [&str; 5] = [
     "text/plain",
     "application/ssml+xml",
     "text/uri-list",
     "TEXT/Plain",
     "Application/SSML+xml",
 ];
-const WRONG_TYPES: [&str; 9] = [
+const GRAMMAR_TYPES: [&str; 4] = [
+    "application/srgs+xml",
+    "text/uri-list",
+    "Application/SRGS+Xml",
+    "TEXT/URI-list",
+];
+/// Wrong for both methods that bring a body.
+const WRONG_TYPES: [&str; 12] = [
     "text/html",
     "text/plain;charset=utf-8",
     "text/plain ;x",
@@ -34,7 +41,42 @@ const WRONG_TYPES: [&str; 9] = [
     "",
     "multipart/mixed; boundary=\"break\"",
     "text /plain",
-    "application/srgs+xml",
+    "application/srgs",
+    "application/srgs+xml;charset=utf-8",
+    "application/srgs-xml",
+    "text/uri-lists",
+];
+const LEVELS: [&str; 14] = [
+    "0", "1", "0.0", "1.0", "0.5", "0.50", "0.500000", "0.000001", "0.999999", "1.000000", "0.1",
+    " 0.3\t", "0.123456", "0.7",
+];
+const WRONG_LEVELS: [&str; 26] = [
+    "",
+    ".",
+    ".5",
+    "0.",
+    "1.",
+    "00.5",
+    "01",
+    "2",
+    "10",
+    "1.000001",
+    "1.1",
+    "1.999999",
+    "0.1234567",
+    "0.5000000",
+    "1.0000000",
+    "-0",
+    "+0.5",
+    "0,5",
+    "0.5.",
+    "0..5",
+    "0. 5",
+    "0.5 0",
+    "1e0",
+    "0.5f",
+    "nan",
+    "0.-1",
 ];
 const KILLS: [&str; 6] = ["true", "false", "TRUE", "False", " false ", "\ttRuE"];
 const WRONG_KILLS: [&str; 7] = ["", "yes", "0", "tru", "truee", "false true", "true,false"];
@@ -54,13 +96,15 @@ const WRONG_LISTS: [&str; 14] = [
     "1\t,2",
     "1-4",
 ];
-const UNUSED: [(&str, &str); 6] = [
+const UNUSED: [(&str, &str); 8] = [
     ("Voice-gender", "neutral"),
     ("Speech-Language", "en-US"),
     ("Prosody-rate", "fast"),
     ("Jump-Size", "-15 Words"),
     ("X", ""),
     ("Content-Lengths", "5"),
+    ("Cancel-If-Queue", "true"),
+    ("Confidence-Thresholds", "2"),
 ];
 const VERSIONS: [&str; 7] = ["1.0", "2.1", "3.0", "0.2", "2.10", "20.0", "12.0"];
 
@@ -79,6 +123,7 @@ impl Request {
         request.set("Channel-Identifier", channel.name.bytes());
         match method {
             "SPEAK" => request.prompt(random),
+            "RECOGNIZE" => request.grammar(random),
             "STOP" if random.chance(50) => {
                 let list = list(random, channel);
                 request.set("Active-Request-Id-List", &list);
@@ -90,6 +135,21 @@ impl Request {
     }
 
     fn prompt(&mut self, random: &mut Random) {
+        self.content(random, &SPEECH_TYPES);
+        if random.chance(60) {
+            self.set("Kill-On-Barge-In", random.pick(&KILLS).as_bytes());
+        }
+    }
+
+    fn grammar(&mut self, random: &mut Random) {
+        self.content(random, &GRAMMAR_TYPES);
+        if random.chance(70) {
+            let level = level(random);
+            self.set("Confidence-Threshold", level.as_bytes());
+        }
+    }
+
+    fn content(&mut self, random: &mut Random, types: &[&str]) {
         self.body = body(random);
         if self.body.is_empty() {
             self.body = b"Hi".to_vec();
@@ -100,10 +160,11 @@ impl Request {
         }
         let length = self.body.len().to_string();
         self.set("Content-Length", length.as_bytes());
-        self.set("Content-Type", random.pick(&TYPES).as_bytes());
-        if random.chance(60) {
-            self.set("Kill-On-Barge-In", random.pick(&KILLS).as_bytes());
-        }
+        self.set("Content-Type", random.pick(types).as_bytes());
+    }
+
+    fn brings_body(&self) -> bool {
+        ["SPEAK", "RECOGNIZE"].contains(&self.method.as_str())
     }
 
     /// What changes no judgement but the last.
@@ -152,28 +213,28 @@ impl Request {
             }
             5 => self.id = old_id(random, channel),
             6 => self.spoil_value(random),
-            7 => self.method = random.pick(&UNKNOWN_METHODS).to_string(),
-            8 => self.method = random.pick(&METHODS[2..5]).to_string(),
+            7 => self.method = other_method(random, channel.kind()).to_string(),
+            8 => self.method = random.pick(may_be_402(channel.kind())).to_string(),
             9 => self.spoil_content(random),
-            10 => self.method = METHODS[0].to_string(),
+            10 => self.method = methods(channel.kind())[0].to_string(),
             _ => self.add_ignored(random),
         }
     }
 
-    /// In SPEAK and STOP a value that acts; elsewhere one that must not.
+    /// In SPEAK, RECOGNIZE and STOP a value that acts; elsewhere one that must not.
     fn spoil_value(&mut self, random: &mut Random) {
-        let list = match self.method.as_str() {
-            "STOP" => true,
-            "SPEAK" => false,
-            _ => random.chance(50),
+        let spoiled = match self.method.as_str() {
+            "STOP" => 0,
+            "SPEAK" => 1,
+            "RECOGNIZE" => 2,
+            _ => random.below(3),
         };
-        if list {
-            let value = random.pick(&WRONG_LISTS);
-            self.set("Active-Request-Id-List", value.as_bytes());
-        } else {
-            let value = random.pick(&WRONG_KILLS);
-            self.set("Kill-On-Barge-In", value.as_bytes());
-        }
+        let (name, value) = match spoiled {
+            0 => ("Active-Request-Id-List", random.pick(&WRONG_LISTS)),
+            1 => ("Kill-On-Barge-In", random.pick(&WRONG_KILLS)),
+            _ => ("Confidence-Threshold", random.pick(&WRONG_LEVELS)),
+        };
+        self.set(name, value.as_bytes());
     }
 
     fn spoil_content(&mut self, random: &mut Random) {
@@ -191,10 +252,23 @@ impl Request {
             }
             5 => {
                 self.empty_body();
-                self.set("Content-Type", random.pick(&WRONG_TYPES).as_bytes());
+                self.wrong_type(random);
             }
-            _ => self.set("Content-Type", random.pick(&WRONG_TYPES).as_bytes()),
+            _ => self.wrong_type(random),
         }
+    }
+
+    fn wrong_type(&mut self, random: &mut Random) {
+        let others = match self.method.as_str() {
+            "SPEAK" => &["application/srgs+xml"][..],
+            "RECOGNIZE" => &["text/plain", "application/ssml+xml"],
+            _ => &WRONG_TYPES,
+        };
+        let value = match random.chance(30) {
+            true => random.pick(others),
+            false => random.pick(&WRONG_TYPES),
+        };
+        self.set("Content-Type", value.as_bytes());
     }
 
     fn empty_body(&mut self) {
@@ -203,10 +277,17 @@ impl Request {
     }
 
     fn add_ignored(&mut self, random: &mut Random) {
-        match random.below(6) {
-            0 => self.set("Content-Type", b"text/plain"),
+        match random.below(9) {
+            0 if !self.brings_body() => self.set("Content-Type", b"text/plain"),
             1 if self.method != "SPEAK" => self.set("Kill-On-Barge-In", b"false"),
             2 if self.method != "STOP" => self.set("Active-Request-Id-List", b"1,x"),
+            3 | 4 if self.method != "RECOGNIZE" => {
+                let value = match random.chance(50) {
+                    true => random.pick(&WRONG_LEVELS).to_string(),
+                    false => level(random),
+                };
+                self.set("Confidence-Threshold", value.as_bytes());
+            }
             _ => {
                 let (name, value) = random.pick(&UNUSED);
                 self.set(name, value.as_bytes());
@@ -232,9 +313,27 @@ impl Request {
     }
 }
 
+/// What judgement 8 can fail on a channel of this kind.
+fn may_be_402(kind: Kind) -> &'static [&'static str] {
+    match kind {
+        Kind::Synthesizer => &["PAUSE", "RESUME", "CONTROL"],
+        Kind::Recognizer => &["START-INPUT-TIMERS"],
+    }
+}
+
+/// A legal level, in any number of digits.
+fn level(random: &mut Random) -> String {
+    if random.chance(40) {
+        return random.pick(&LEVELS).to_string();
+    }
+    let places = random.between(1, 6);
+    let digits = random.letters(b"0123456789", places);
+    format!("0.{}", String::from_utf8_lossy(&digits))
+}
+
 /// Judgement 2 in one of its ways.
 fn spoil_draft(random: &mut Random, draft: &mut Draft) {
-    match random.below(8) {
+    match random.below(9) {
         0..=2 => malformed_line(draft, random),
         3 => empty_line(draft, random),
         4 => content_length(draft, random),
@@ -245,7 +344,12 @@ fn spoil_draft(random: &mut Random, draft: &mut Draft) {
         }
         6 => draft.body.push(b'!'),
         _ => {
-            let known = random.pick(&["LOGGING-TAG", "proxy-sync-id", "Content-type"]);
+            let known = random.pick(&[
+                "LOGGING-TAG",
+                "proxy-sync-id",
+                "Content-type",
+                "Confidence-threshold",
+            ]);
             draft.field(known.as_bytes(), b"1");
             draft.field(known.as_bytes(), b"1");
         }
@@ -254,12 +358,14 @@ fn spoil_draft(random: &mut Random, draft: &mut Draft) {
 
 fn wrong_name(random: &mut Random, name: &[u8]) -> Vec<u8> {
     let mut wrong = name.to_vec();
-    match random.below(7) {
+    match random.below(8) {
         0 => wrong.clear(),
         1 => drop(wrong.pop()),
         2 => wrong.push(b'x'),
-        3 => wrong = b"other@speechsynth".to_vec(),
-        4 => wrong.insert(0, b'0'),
+        3 => wrong = [b"other", &name[name.len().saturating_sub(12)..]].concat(),
+        // The same session, on the other resource.
+        4 => wrong = other_resource(name),
+        5 => wrong.insert(0, b'0'),
         _ => {
             let place = random.below(wrong.len());
             if let Some(byte) = wrong.get_mut(place) {
@@ -274,6 +380,15 @@ fn wrong_name(random: &mut Random, name: &[u8]) -> Vec<u8> {
         }
     });
     wrong
+}
+
+fn other_resource(name: &[u8]) -> Vec<u8> {
+    let (own, other) = match Kind::of_name(name) {
+        Kind::Synthesizer => (Kind::Synthesizer, Kind::Recognizer),
+        Kind::Recognizer => (Kind::Recognizer, Kind::Synthesizer),
+    };
+    let session = name.strip_suffix(own.resource()).unwrap_or(name);
+    [session, other.resource()].concat()
 }
 
 /// An id that is not above the last one seen.

@@ -1,8 +1,9 @@
 //! Names for opening, and channels as a script may hand them in.
 
 use super::random::Random;
-use crate::channel::{Channel, Name, Speak, State, LONGEST_NAME, MOST_OUTSTANDING, RESOURCE};
-use crate::kept::{self, entry, Kept};
+use crate::channel::{Channel, Held, Kind, Name, State, LONGEST_NAME};
+use crate::kept::{self, Kept};
+use crate::level::Level;
 
 const ALNUM: &[u8] = b"0123456789ABCDEFGHIJKLMNOPQRSTUVWXYZabcdefghijklmnopqrstuvwxyz";
 
@@ -10,17 +11,26 @@ fn letters(random: &mut Random, length: usize) -> Vec<u8> {
     random.letters(ALNUM, length)
 }
 
-pub fn good_name(random: &mut Random) -> Vec<u8> {
+pub fn good_name(random: &mut Random, kind: Kind) -> Vec<u8> {
     let length = random.pick(&[1, 2, 4, 4, 8, 14, 31, 32, 32]);
-    [&letters(random, length)[..], RESOURCE].concat()
+    [&letters(random, length)[..], kind.resource()].concat()
 }
 
-const BAD_NAMES: [&[u8]; 17] = [
+const BAD_NAMES: [&[u8]; 26] = [
     b"",
     b"@speechsynth",
+    b"@speechrecog",
     b"7f3a",
     b"7f3a@",
-    b"7f3a@speechrecog",
+    b"7f3a@speechreco",
+    b"7f3a@speechrecogx",
+    b"7f3a@speechRecog",
+    b"7f3aspeechrecog",
+    b"7f_3a@speechrecog",
+    b"7f 3a@speechrecog",
+    b"a@speechrecog@speechsynth",
+    b"a@speechsynth@speechrecog",
+    b"speechrecog",
     b"7f3a@speechsynt",
     b"7f3a@speechsynthx",
     b"7f3a@SPEECHSYNTH",
@@ -35,11 +45,11 @@ const BAD_NAMES: [&[u8]; 17] = [
     b"a@speechsynth@speechsynth",
 ];
 
-pub fn bad_name(random: &mut Random) -> Vec<u8> {
+pub fn bad_name(random: &mut Random, kind: Kind) -> Vec<u8> {
     match random.below(6) {
-        0 => [&letters(random, 33)[..], RESOURCE].concat(),
+        0 => [&letters(random, 33)[..], kind.resource()].concat(),
         1 => {
-            let mut name = good_name(random);
+            let mut name = good_name(random, kind);
             let place = random.below(name.len());
             name[place] = random.pick(b"-@ .\0\x7f\x80_S");
             name
@@ -66,36 +76,99 @@ impl Given {
         Given {
             kept,
             name: kept.name_bytes(),
-            entries: kept.queue_numbers().len(),
+            entries: kept.shown_count(),
         }
     }
 }
 
-/// A sound channel in any state.
-pub fn sound(random: &mut Random) -> Channel {
-    let (mut channel, _) = Channel::open(&good_name(random));
+/// A sound channel in any state of its kind.
+pub fn sound(random: &mut Random, kind: Kind) -> Channel {
+    let (mut channel, _) = Channel::open(&good_name(random, kind));
+    let most = kind.most_outstanding();
     let count = match random.below(4) {
         0 => 0,
-        1 => random.pick(&[1, 1, 2, 3, MOST_OUTSTANDING - 1]),
-        2 => MOST_OUTSTANDING,
-        _ => random.between(1, MOST_OUTSTANDING),
+        1 => random.pick(&[1, 1, 2, 3, most - 1]),
+        2 => most,
+        _ => random.between(1, most),
     };
-    for id in rising(random, count) {
-        let killable = random.chance(60);
-        channel.queue.add(Speak { id, killable });
+    let first = random.pick(&[0, 1, 7, 96, 543_256, 999_999_990, 4_294_967_290]);
+    for id in rising(random, first, count) {
+        let held = held(random, kind, id);
+        channel.queue.add(held);
         channel.last = Some(id.saturating_add(random.pick(&[0, 0, 0, 1, 10])));
     }
-    if count > 0 {
-        channel.state = random.pick(&[State::Speaking, State::Paused]);
-    } else if random.chance(60) {
+    if count == 0 && random.chance(60) {
         channel.last = Some(random.pick(&[0, 5, 543_256, u32::MAX - 1, u32::MAX]));
     }
+    channel.state = match (kind, count) {
+        (Kind::Synthesizer, 1..) => random.pick(&[State::Speaking, State::Paused]),
+        (Kind::Recognizer, 1..) => State::Recognizing,
+        (Kind::Recognizer, 0) if channel.last.is_some() => {
+            random.pick(&[State::Idle, State::Recognized])
+        }
+        _ => State::Idle,
+    };
     channel
 }
 
-/// Ids that rise, some up to the end of their range.
-fn rising(random: &mut Random, count: usize) -> Vec<u32> {
-    let mut id = random.pick(&[0, 1, 7, 96, 543_256, 999_999_990, 4_294_967_290]);
+/// Eight of ten digits on the longest name: a report here can need 1,250 bytes.
+pub fn longest(random: &mut Random) -> Channel {
+    let kind = Kind::Recognizer;
+    let (mut channel, _) = Channel::open(&[&letters(random, 32)[..], kind.resource()].concat());
+    let first = random.pick(&[1_000_000_000, 4_294_967_290]);
+    for id in rising(random, first, kind.most_outstanding()) {
+        let held = held(random, kind, id);
+        channel.queue.add(held);
+        channel.last = Some(id);
+    }
+    channel.state = State::Recognizing;
+    channel
+}
+
+fn held(random: &mut Random, kind: Kind, id: u32) -> Held {
+    match kind {
+        Kind::Synthesizer => Held {
+            killable: random.chance(60),
+            ..Held::by_default(id)
+        },
+        Kind::Recognizer => Held {
+            threshold: Level(bits(random)),
+            ..Held::by_default(id)
+        },
+    }
+}
+
+/// Those of levels, mostly; also of numbers that no level is, and of no number.
+fn bits(random: &mut Random) -> u32 {
+    match random.weighted(&[10, 50, 20, 20]) {
+        0 => 0,
+        1 => (random.below(1_000_001) as f32 / 1e6).to_bits(),
+        2 => random.next() as u32,
+        _ => random.pick(&ODD_BITS),
+    }
+}
+
+/// Zeros, the smallest, around 1, the largest, infinities, and no numbers.
+pub const ODD_BITS: [u32; 14] = [
+    0x0000_0000,
+    0x8000_0000,
+    0x0000_0001,
+    0x8000_0001,
+    0x3f7f_ffff,
+    0x3f80_0000,
+    0x3f80_0001,
+    0xbf80_0000,
+    0x7f7f_ffff,
+    0x7f80_0000,
+    0xff80_0000,
+    0x7f80_0001,
+    0x7fc0_0000,
+    0xffff_ffff,
+];
+
+/// Ids that rise from the first on, some up to the end of their range.
+fn rising(random: &mut Random, first: u64, count: usize) -> Vec<u32> {
+    let mut id = first;
     let mut ids: Vec<u64> = Vec::new();
     for _ in 0..count {
         ids.push(id);
@@ -113,37 +186,49 @@ pub fn given(random: &mut Random, channel: &Channel) -> Given {
     if random.chance(50) {
         return given;
     }
-    let (count, size) = (given.entries, given.name.len());
+    let (kind, count, size) = (channel.kind(), given.entries, given.name.len());
     let numbers = &mut given.kept.0;
-    for number in &mut numbers[kept::QUEUE + count..kept::NAME] {
-        *number = entry(random.next() >> random.pick(&[1, 31]), random.chance(50));
+    // On a recognizer there are two halves, each used up to the count.
+    for half in numbers[kept::QUEUE..kept::NAME].chunks_mut(kind.most_outstanding()) {
+        for number in &mut half[count..] {
+            *number = random.next() >> random.pick(&[0, 30, 31]);
+        }
     }
     for number in &mut numbers[kept::NAME + size..] {
         if random.chance(10) {
             *number = random.next() >> random.pick(&[0, 31, 56]);
         }
     }
-    given.entries = random.between(count, MOST_OUTSTANDING);
+    if kind == Kind::Recognizer && random.chance(30) {
+        // A RECOGNIZE is never asked whether it is killable.
+        (0..count).for_each(|place| numbers[kept::QUEUE + place] ^= random.next() & 1);
+    }
+    given.entries = random.between(count, kind.most_outstanding());
     given
 }
 
 /// A sound channel with something of it broken, if it has that.
 pub fn broken(random: &mut Random, channel: &Channel) -> Given {
     let mut kept = Kept::of(channel);
-    match random.below(13) {
+    let most = channel.kind().most_outstanding();
+    match random.below(15) {
         0 => kept = broken_name(random, channel),
-        1 => kept.0[kept::STATE] = other_state(random, channel.state).number(),
-        2 => kept.0[kept::STATE] = above(random, 2, kept.0[kept::STATE]),
-        3 => kept.0[kept::COUNT] = above(random, MOST_OUTSTANDING, kept.0[kept::COUNT]),
+        1 => kept.0[kept::STATE] = other_state(random, channel).number(),
+        2 => kept.0[kept::STATE] = above(random, 4, kept.0[kept::STATE]),
+        3 => kept.0[kept::COUNT] = above(random, most, kept.0[kept::COUNT]),
         // It brings in entries that were not given, or hides some.
-        4 => kept.0[kept::COUNT] = random.between(0, MOST_OUTSTANDING) as u64,
+        4 => kept.0[kept::COUNT] = random.between(0, most) as u64,
         5 => break_rising(random, &mut kept),
         6 => break_last(random, &mut kept),
         7 => kept.0[kept::LAST] = above(random, 1 << 32, kept.0[kept::LAST]),
         8 => none_seen(random, &mut kept),
         9 => break_number(random, &mut kept, kept::QUEUE, (1 << 33) - 1),
         10 => break_number(random, &mut kept, kept::NAME, 255),
-        11 => kept.0[kept::SIZE] = broken_size(random, kept.0[kept::SIZE]),
+        11 if channel.kind() == Kind::Recognizer => {
+            break_number(random, &mut kept, kept::THRESHOLDS, (1 << 32) - 1)
+        }
+        12 => other_kind(random, &mut kept),
+        11 | 13 => kept.0[kept::SIZE] = broken_size(random, kept.0[kept::SIZE]),
         _ => return long_name(random, kept),
     }
     Given::of(kept)
@@ -162,7 +247,7 @@ fn above(random: &mut Random, most: usize, right: u64) -> u64 {
 }
 
 fn broken_name(random: &mut Random, channel: &Channel) -> Kept {
-    let mut name = bad_name(random);
+    let mut name = bad_name(random, channel.kind());
     name.truncate(LONGEST_NAME);
     let name = Name::of(&name).unwrap_or(Name::EMPTY);
     Kept::of(&Channel { name, ..*channel })
@@ -173,14 +258,11 @@ fn long_name(random: &mut Random, mut kept: Kept) -> Given {
     let (first, more) = (random.pick(&[32, 32, 33, 60]), random.between(1, 20));
     let name = [
         &letters(random, first)[..],
-        RESOURCE,
+        kept.kind().resource(),
         &letters(random, more)[..],
     ]
     .concat();
-    kept.0[kept::SIZE] = name.len() as u64;
-    for (number, byte) in kept.0[kept::NAME..].iter_mut().zip(&name) {
-        *number = u64::from(*byte);
-    }
+    kept.put_name(&name);
     Given {
         name,
         ..Given::of(kept)
@@ -198,8 +280,8 @@ fn broken_size(random: &mut Random, size: u64) -> u64 {
 /// One of the numbers in use from `first` on is above `most`.
 fn break_number(random: &mut Random, kept: &mut Kept, first: usize, most: usize) {
     let used = match first {
-        kept::QUEUE => kept.queue_numbers().len(),
-        _ => kept.name_bytes().len(),
+        kept::NAME => kept.name_bytes().len(),
+        _ => kept.shown_count(),
     };
     if used > 0 {
         let any = random.below(used);
@@ -208,15 +290,26 @@ fn break_number(random: &mut Random, kept: &mut Kept, first: usize, most: usize)
     }
 }
 
-fn other_state(random: &mut Random, state: State) -> State {
-    match state {
-        State::Idle => random.pick(&[State::Speaking, State::Paused]),
-        _ => State::Idle,
-    }
+/// A state with which the channel is not sound.
+fn other_state(random: &mut Random, channel: &Channel) -> State {
+    let others = State::ALL.into_iter().filter(|&state| {
+        let other = Channel { state, ..*channel };
+        !other.is_sound()
+    });
+    random.pick(&others.collect::<Vec<State>>())
+}
+
+/// The same numbers under a name of the other kind, whose states and places are others.
+fn other_kind(random: &mut Random, kept: &mut Kept) {
+    let kind = match kept.kind() {
+        Kind::Synthesizer => Kind::Recognizer,
+        Kind::Recognizer => Kind::Synthesizer,
+    };
+    kept.put_name(&[&letters(random, 4)[..], kind.resource()].concat());
 }
 
 fn break_rising(random: &mut Random, kept: &mut Kept) {
-    let count = kept.queue_numbers().len();
+    let count = kept.shown_count();
     if count < 2 {
         return;
     }
@@ -231,17 +324,17 @@ fn break_rising(random: &mut Random, kept: &mut Kept) {
 
 /// The last seen is below the last, or below all, of the queue.
 fn break_last(random: &mut Random, kept: &mut Kept) {
-    let queue = kept.queue_numbers();
+    let queue = kept.entries(kept.shown_count());
     if let (Some(first), Some(last)) = (queue.first(), queue.last()) {
         // An id is kept with 1 more, so this is the id before.
-        kept.0[kept::LAST] = random.pick(&[first >> 1, last >> 1]);
+        kept.0[kept::LAST] = random.pick(&[first.number >> 1, last.number >> 1]);
     }
 }
 
 fn none_seen(random: &mut Random, kept: &mut Kept) {
     kept.0[kept::LAST] = 0;
     if random.chance(50) {
-        kept.0[kept::STATE] = random.pick(&[1, 2]);
+        kept.0[kept::STATE] = random.pick(&[1, 2, 3, 4]);
         kept.0[kept::COUNT] = random.pick(&[0, kept.0[kept::COUNT]]);
     }
 }

@@ -2,6 +2,7 @@
 
 use super::batch::Batch;
 use super::random::Random;
+use crate::channel::Kind;
 use crate::start_line::RequestState;
 use crate::writing::{Answer, Event, Ids, Outgoing};
 
@@ -19,15 +20,21 @@ const CAUSES: usize = 10;
 /// of 1 to 32 letters and every cause come in turn.
 pub fn writes(batch: &mut Batch, random: &mut Random, turn: usize) {
     let mut name = random.letters(b"0123456789abcdefXYZ", 1 + turn % 32);
-    name.extend_from_slice(b"@speechsynth");
+    // Names are written as they come, whatever their kind.
+    let kind = match turn % 3 {
+        0 => Kind::Recognizer,
+        _ => Kind::Synthesizer,
+    };
+    name.extend_from_slice(kind.resource());
     let id = id_of(random, 1 + turn % 10);
     let number = turn / 2;
     if turn.is_multiple_of(2) {
         let event = Event {
+            kind: Kind::Synthesizer,
             id,
             cause: (number % CAUSES) as u32,
         };
-        let most = Outgoing::Event(Event { id, cause: 0 }).size(&name) + 16;
+        let most = Outgoing::Event(Event { cause: 0, ..event }).size(&name) + 16;
         (0..=most).for_each(|room| batch.complete(&event, &name, room));
         return;
     }

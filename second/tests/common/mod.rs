@@ -4,12 +4,15 @@
 use second::{Kept, Outcome};
 
 pub const NAME: &[u8] = b"7f3a@speechsynth";
+pub const RECOGNIZER: &[u8] = b"7f3a@speechrecog";
 
 /// The bytes of a text in which `|` is CRLF, `{C}` a right Channel-Identifier
-/// line, `{L}` the right length, and each character up to U+00FF one byte.
+/// line of the synthesizer and `{R}` of the recognizer, `{L}` the right length,
+/// and each character up to U+00FF one byte.
 pub fn wire(text: &str) -> Vec<u8> {
     let text = text
         .replace("{C}", "Channel-Identifier:7f3a@speechsynth|")
+        .replace("{R}", "Channel-Identifier:7f3a@speechrecog|")
         .replace('|', "\r\n");
     // The smallest right length is found by trying.
     (0..100_000)
@@ -59,8 +62,13 @@ pub fn handle_in(channel: &mut Kept, input: &[u8], room: usize) -> (Outcome, Vec
 }
 
 pub fn report_in(channel: &mut Kept, cause: u32, room: usize) -> (Outcome, Vec<u8>) {
+    scored_in(channel, cause, 0, room)
+}
+
+/// A report with the bits of its score.
+pub fn scored_in(channel: &mut Kept, cause: u32, score: u32, room: usize) -> (Outcome, Vec<u8>) {
     let mut output = vec![0xa5; room];
-    let outcome = channel.report(cause, &mut output);
+    let outcome = channel.report(cause, f32::from_bits(score), &mut output);
     assert!(output[outcome.written..].iter().all(|&byte| byte == 0xa5));
     output.truncate(outcome.written);
     (outcome, output)

@@ -11,16 +11,19 @@ use lib.Dec.{lit≤}
 use lib.ListN.{length}
 use Rattle.lists.specs.Lists.{all, run, All}
 use Rattle.octets.specs.Octets.{isValue, isBlank}
+use native.Mathlib.Nat.{le-trans}
+use Rattle.message.specs.StartLines.{isMethodName}
 use Rattle.message.specs.Fields.{trimEnd}
 use Rattle.message.specs.Known.{knownOf, valueOf}
 use Rattle.message.specs.declared.Known.the-variants.{ActiveRequestIdList}
 use Rattle.message.specs.declared.RequestState.{RequestState}
 use Rattle.answer.specs.IdList.{idListText}
-use Rattle.answer.specs.Answers.{completionCause, response, speakComplete}
+use Rattle.answer.specs.Answers.{eventName, completionCause, response, complete}
+use Rattle.answer.specs.declared.Kind.{Kind}
 use Rattle.answer.specs.Writable.{Writable}
-use Rattle.answer.proofs.Values.{ValueFits, cause-fits}
+use Rattle.answer.proofs.Values.{ValueFits, cause-most, CauseFits}
 use Rattle.answer.proofs.Answers.{field-fits, name-fits, list-fits, list-few, list-once, cause-once, list-bare, cause-bare}
-use Rattle.answer.proofs.Sizes.{state-most, list-most, response-size, complete-size}
+use Rattle.answer.proofs.Sizes.{state-most, list-most, response-size, event-most, complete-size}
 
 -- what of a channel's name matters to writing
 pub record NameFits (name : List ℕ) : Type 0 where
@@ -45,15 +48,29 @@ response-writable name id status state ids n i s l a = record {
   fits = omega (arith, response-size name id status state ids (n .most) i (list-most ids l a), state-most state, list-most ids l a);
 }
 
-pub complete-writable : (name : List ℕ) (id cause : ℕ) → NameFits name → id < 4294967296 → cause ≤ 7 → Writable (speakComplete name id cause)
-unfolding speakComplete
-complete-writable name id cause n i c = record {
-  start = (refl, i);
+event-named : (kind : Kind) → isMethodName (eventName kind) ≡ true
+event-named Kind.Synthesizer = refl
+event-named Kind.Recognizer = refl
+
+pub complete-writable : (kind : Kind) (name : List ℕ) (id cause : ℕ) → NameFits name → id < 4294967296
+    → CauseFits kind cause
+    → Writable (complete kind name id cause)
+unfolding complete
+complete-writable kind name id cause n i c = record {
+  start = (event-named kind, i);
   few = lit≤ tt;
-  fields = (name-fits name (value-fits name n), (field-fits (completionCause cause) (lit≤ tt) (lit≤ tt) refl (cause-fits cause c .0), tt));
-  once = cause-once name cause;
-  length-agrees = rw (cause-bare name cause);
-  fits = omega (arith, complete-size name id cause (n .most) i (cause-fits cause c .1));
+  fields =
+      (name-fits name (value-fits name n), (field-fits (completionCause kind cause) (lit≤ tt) (lit≤ tt) refl (c .value), tt));
+  once = cause-once name kind cause;
+  length-agrees = rw (cause-bare name kind cause);
+  fits =
+      omega (
+        arith,
+        complete-size kind name id cause (n .most) i (le-trans (c .most) (cause-most kind)),
+        c .most,
+        cause-most kind,
+        event-most kind,
+      );
 }
 
 module _ (name : List ℕ) (id status : ℕ) (state : RequestState) where

@@ -1,6 +1,9 @@
 -- `channelnumbers::save` writes the four numbers in front, the queue's and the name's. Assumes nothing.
 use mathlib.Core.Path.{refl}
 use native.Mathlib.Omega.{arith}
+use Rattle.synth.proofs.Channels.{most-16}
+use Rattle.channel.specs.Channel.{view}
+use Rattle.channelnumbers.specs.Numbers.{kind}
 use Rattle.channelnumbers.proofs.Saving.{counted, sized, saved-numbers}
 use borrow.Author.Needs.{needs}
 use Rattle.channelnumbers.proofs.save.Statement.{statement}
@@ -10,13 +13,16 @@ returns : tie.Need-returns
 returns c =
     let at = c .before .before .before .before .before in
     let many = counted (at .args .c) _ (at .good .1 .0) in
-    (λ short few. absurd (omega (arith, few, many, c .if1 .taken)), (λ long. refl, λ more. refl))
+    (λ short few. absurd (omega (arith, few, most-16 (kind (view (at .args .last) (at .args .c))), many, c .if1 .taken)), (λ long. refl, λ more. refl))
 
 returns-2 : tie.Need-returns-2
 returns-2 c =
     let at = c .before .before .before .before .before .before .before in
     let long = sized (at .args .c) _ (at .good .1 .0) in
     (λ short few. absurd (omega (arith, short, long, c .if2 .taken)), (λ long. refl, λ more. refl))
+
+kind-by-requires : tie.Need-kind-by-requires
+kind-by-requires c κs = search needs
 
 state-number-requires : tie.Need-state-number-requires
 state-number-requires c κs = search needs
@@ -39,18 +45,23 @@ element-write-ws-4 c = search needs
 save-queue-requires : tie.Need-save-queue-requires
 save-queue-requires c κs = search needs
 
+save-thresholds-requires : tie.Need-save-thresholds-requires
+save-thresholds-requires c κs = search needs
+
 save-name-requires : tie.Need-save-name-requires
 save-name-requires c κs = search needs
 
 returns-3 : tie.Need-returns-3
 returns-3 c =
-    let at = c .before .before .before .before .before .before .before .before .before .before .before .before .before in
+    let at = c .before .before .before .before .before .before .before .before .before .before .before .before .before .before .before .before in
     let ch = at .args .c in
     let good = at .good .1 .0 in
-    let few = c .before .before .before .before .before .before .before .before .if1 .left in
-    let short = c .before .before .before .before .before .before .if2 .left in (
-      λ h k. saved-numbers ch _ good (at .args .last) few short (c .before .before .save-queue .ensures) (c .save-name .ensures) (c .before .before .before .before .before .state-number .ensures) (c .before .before .before .before .first-above .ensures .0),
-      (λ long. absurd (omega (arith, long, short, sized ch _ good)), λ many. absurd (omega (arith, many, few, counted ch _ good))),
+    let many = counted ch _ good in
+    let short = c .before .before .before .before .before .before .before .before .before .if2 .left in
+    let within = c .before .before .before .before .before .before .before .before .before .before .before .if1 .left in
+    let kept = rw (c .before .before .before .before .before .before .before .before .kind-by .ensures) at (c .before .before .save-thresholds .ensures) in (
+      λ h few. saved-numbers ch _ good (at .args .last) (rw (← many) few) short (c .before .before .before .before .save-queue .ensures) kept (c .save-name .ensures) (c .before .before .before .before .before .before .before .state-number .ensures) (c .before .before .before .before .before .before .first-above .ensures .0),
+      (λ long. absurd (omega (arith, long, short, sized ch _ good)), λ more. absurd (omega (arith, more, within, many))),
     )
 
 pub save-spec : {M : Type 1} → statement M
@@ -59,6 +70,7 @@ save-spec =
     (tie.spec
     returns
     returns-2
+    kind-by-requires
     state-number-requires
     element-write-ws
     first-above-requires
@@ -66,5 +78,6 @@ save-spec =
     element-write-ws-3
     element-write-ws-4
     save-queue-requires
+    save-thresholds-requires
     save-name-requires
     returns-3)

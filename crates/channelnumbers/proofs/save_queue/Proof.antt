@@ -4,39 +4,35 @@ use mathlib.Core.Path.{_≡_}
 use mathlib.Core.List.{map}
 use native.Mathlib.Omega.{arith}
 use lib.ListN.{length}
-use Rattle.queue.proofs.Queues.{entries-16}
-use Rattle.channelnumbers.specs.Numbers.{entryNumber}
-use Rattle.channelnumbers.specs.Steps.{Stored}
+use Rattle.queue.proofs.Queues.{numbers-16}
+use Rattle.channelnumbers.specs.Steps.{Stored, stored}
 use Rattle.channelnumbers.proofs.Saving.{stored-none, entry-more}
 use borrow.Author.Needs.{needs}
 use Rattle.channelnumbers.proofs.save_queue.Statement.{statement}
 use Rattle.channelnumbers.proofs.save_queue.Tie as tie
 
 abbrev Inv-loop : tie.InvT-loop
-Inv-loop ws₀ count entries i₀ ws i = (i ≤ count) × (count ≤ 16) × (length entries ≡ 16) × Stored ws₀ 4 (map entryNumber entries) i ws
+Inv-loop ws₀ count numbers i₀ ws i = (i ≤ count) × (count ≤ 16) × (length numbers ≡ 16) × Stored ws₀ 4 (map stored numbers) i ws
 
 abbrev μ-loop : tie.MeasureT-loop
-μ-loop ws₀ count entries i₀ ws i = count - i
+μ-loop ws₀ count numbers i₀ ws i = count - i
 
 loop-holds : tie.Need-loop-holds Inv-loop μ-loop
 loop-holds c =
     let at = c .before in
-    (omega arith, search needs, entries-16 (at .args .q) _ (at .good .0), stored-none (at .args .ws .now) 4 (map entryNumber (at .args .q .entries)) (search needs))
+    (omega arith, search needs, numbers-16 (at .args .q) _ (at .good .0), stored-none (at .args .ws .now) 4 (map stored (at .args .q .numbers)) (search needs))
 
-mul-entry-number : tie.Need-mul-entry-number Inv-loop μ-loop
-mul-entry-number c = search needs
+mul-ws : tie.Need-mul-ws Inv-loop μ-loop
+mul-ws c = search needs
 
-array-copy-out-entry-number : tie.Need-array-copy-out-entry-number Inv-loop μ-loop
-array-copy-out-entry-number c = search needs
-
-entry-number-requires : tie.Need-entry-number-requires Inv-loop μ-loop
-entry-number-requires c κs = search needs
+array-read-ws : tie.Need-array-read-ws Inv-loop μ-loop
+array-read-ws c = search needs
 
 add-ws : tie.Need-add-ws Inv-loop μ-loop
 add-ws c = search needs
 
-mul-ws : tie.Need-mul-ws Inv-loop μ-loop
-mul-ws c = search needs
+mul-ws-2 : tie.Need-mul-ws-2 Inv-loop μ-loop
+mul-ws-2 c = search needs
 
 element-write-ws : tie.Need-element-write-ws Inv-loop μ-loop
 element-write-ws c = search needs
@@ -49,9 +45,8 @@ loop-less c = search needs
 
 loop-again : tie.Need-loop-again Inv-loop μ-loop
 loop-again c =
-    let l = c .before .before .before .loop in
-    let inv = l .inv in
-    (omega arith, inv .1, inv .2, entry-more (c .before .before .before .before .before .args .q .entries) _ (inv .2) (omega arith) (inv .3) (c .entry-number .ensures))
+    let inv = c .before .loop .inv in
+    (omega arith, inv .1, inv .2, entry-more (c .before .before .before .args .q .numbers) (inv .2) (omega arith) (inv .3))
 
 returns : tie.Need-returns Inv-loop μ-loop
 returns c =
@@ -67,11 +62,10 @@ save-queue-spec =
     Inv-loop
     μ-loop
     loop-holds
-    mul-entry-number
-    array-copy-out-entry-number
-    entry-number-requires
-    add-ws
     mul-ws
+    array-read-ws
+    add-ws
+    mul-ws-2
     element-write-ws
     add-i
     loop-less

@@ -5,6 +5,7 @@ use mathlib.Core.Path.{_≡_, refl, sym, ap, _∙_}
 use mathlib.Core.Bool.{Bool, true, false, false≢true}
 use mathlib.Core.Option.{Option, none, some}
 use mathlib.Core.List.{List, [], _∷_}
+use lib.Ieee.{Float}
 use lib.Dec.{ltb}
 use lib.ListN.{length, take}
 use Rattle.framing.specs.Framing.{framing, frameLength}
@@ -17,7 +18,7 @@ use Rattle.message.specs.declared.Span.{Span}
 use Rattle.messagenumbers.specs.Layout.{messageNumbers}
 use Rattle.firmware.specs.Face.{framed, frameFace, ReadFace, consuming, readAs, readFace, called}
 use Rattle.synth.specs.Channel.{View, wellNamed, sound, held}
-use Rattle.synth.specs.Calls.{input, cause, openChannel}
+use Rattle.synth.specs.Calls.{input, report, openChannel}
 use Rattle.channelnumbers.specs.Numbers.{numbersOf, viewOf}
 use Rattle.klarvesimo.specs.Face.{openFace, HeldFace, fitting, heldOn, heldFace, counted, reported, listed}
 use Rattle.demands.specs.Demands.{Line, given, table, firstDue, outcome, exact, stated}
@@ -136,17 +137,17 @@ module _ (ws out : List ℕ) where
         out = atFront (exact v (input s)) out;
       }
 
-  reported-by : (n : ℕ) (written : List ℕ) → length written ≡ 1 → (o : Option Line)
-      → reported written (lineFace o (channelIn ws) ws (cause n) out) ≡ byLine o (on ws (reports n out written))
-  reported-by n written one (some l) = λ i.
+  reported-by : (cause : ℕ) (score : Float) (written : List ℕ) → length written ≡ 1 → (o : Option Line)
+      → reported written (lineFace o (channelIn ws) ws (report cause score) out) ≡ byLine o (on ws (reports cause score out written))
+  reported-by cause score written one (some l) = λ i.
       record { number = l .number; channel = ws; written = one-place written 0 one i; out = out }
-  reported-by n written one none = λ i.
+  reported-by cause score written one none = λ i.
       let v = channelIn ws in
       record {
         number = 0;
-        channel = numbersOf (outcome v (cause n) .next);
-        written = one-place written (length (exact v (cause n))) one i;
-        out = atFront (exact v (cause n)) out;
+        channel = numbersOf (outcome v (report cause score) .next);
+        written = one-place written (length (exact v (report cause score))) one i;
+        out = atFront (exact v (report cause score)) out;
       }
 
 -- listing, by whether the channel is sound and its ids fit
@@ -194,9 +195,9 @@ demand1-of-the-face (reads s out consumed) p = read-tabled s out consumed p
 demand1-of-the-face (on ws (handles s out counts)) p =
     ap (counted counts) (call-by-table ws (input s) out)
     ∙ (unfold refusals in handled ws out s counts p (firstDue (table (channelIn ws) (input s) (length out))))
-demand1-of-the-face (on ws (reports n out written)) p =
-    ap (reported written) (call-by-table ws (cause n) out)
-    ∙ (unfold refusals in reported-by ws out n written p (firstDue (table (channelIn ws) (cause n) (length out))))
+demand1-of-the-face (on ws (reports cause score out written)) p =
+    ap (reported written) (call-by-table ws (report cause score) out)
+    ∙ (unfold refusals in reported-by ws out cause score written p (firstDue (table (channelIn ws) (report cause score) (length out))))
 demand1-of-the-face (on ws (lists ids count)) p = listed-on ws ids count p (viewOf ws) refl _ refl
 
 -- the same where it is known which line is the first that is due, or that none is

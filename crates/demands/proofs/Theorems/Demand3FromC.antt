@@ -12,14 +12,16 @@ use lib.Seq.{take-append-seam}
 use Rattle.lists.proofs.Tests.{choose}
 use Rattle.ledger.specs.Ledger.{Exchange, Run, ended, called, Turn}
 use Rattle.synth.specs.Channel.{View, fresh, wellNamed, sound}
-use Rattle.synth.specs.Calls.{Lent, input, cause, Call, Reply, Opened, refuse, call, openChannel}
+use Rattle.synth.specs.Calls.{Lent, input, report, Call, Reply, Opened, refuse, call, openChannel}
 use Rattle.synth.specs.Demand3.{Meets}
+use Rattle.synth.proofs.Channels.{sound-facts}
 use Rattle.synth.proofs.Theorems.Demand3.{demand3}
 use Rattle.synth.proofs.Theorems.Soundness.{call-sound, refused-keeps}
 use Rattle.channelnames.proofs.Fits.{name-fits}
-use Rattle.calls.proofs.Leaving.{name-short, queue-short, unsound-refused}
+use Rattle.calls.proofs.Leaving.{name-short, unsound-refused}
 use Rattle.channelnumbers.specs.Numbers.{numbersOf, viewOf}
-use Rattle.channelnumbers.proofs.Theorems.LoadSaved.{load-saved}
+use Rattle.channelnumbers.proofs.Theorems.LoadSaved.{sound-few, load-saved, loaded-fit}
+use Rattle.channelnumbers.proofs.Theorems.ThresholdsFit.{call-fit, fresh-fit}
 use Rattle.klarvesimo.specs.Face.{openFace, CallFace, keeping, turnFace, callOn, callFace}
 use Rattle.demands.specs.FromC.{on, handing, Places, seenAs, channelIn, seen, stepped, CalledFromC}
 use Rattle.demands.specs.FromC.{Demand3OfTheFace}
@@ -67,7 +69,7 @@ module _ (v : View) (ws out : List ℕ) (lent : Lent) (is : viewOf ws ≡ some v
   saved : (n : ℕ) → t .reply .number ≡ n → channelIn (keeping n ws (t .next)) ≡ t .next
   saved zero e =
       let s = call-sound v made (sane e) in
-      ap seenAs (load-saved (t .next) (queue-short (t .next) s) (name-short (t .next) s))
+      ap seenAs (load-saved (t .next) (sound-few (t .next) s) (name-short (t .next) s) (call-fit v (loaded-fit ws is) made))
   saved (suc n) e = ap seenAs is ∙ sym (refused-keeps v made (λ z. let y : 0 ≡ suc n = sym z ∙ e in omega arith) .1)
 
   meets-channel : FaceMeets ws out lent
@@ -107,17 +109,17 @@ seen-reply ws out counts (input s) two =
     let f = callFace ws (input s) out in
     ap (λ (l : List ℕ). record { number = f .number; consumed = getD l 0 0; written = take (getD l 1 0) (f .out) })
     (two-places counts (f .consumed) (f .written) two)
-seen-reply ws out written (cause n) one =
-    let f = callFace ws (cause n) out in
+seen-reply ws out written (report cause score) one =
+    let f = callFace ws (report cause score) out in
     ap (λ (l : List ℕ). record { number = f .number; consumed = 0; written = take (getD l 0 0) (f .out) })
     (one-place written (f .written) one)
     ∙ ap (λ (m : ℕ). record { number = f .number; consumed = m; written = take (f .written) (f .out) })
-    (sym (report-consumes-none ws n out))
+    (sym (report-consumes-none ws cause score out))
 
 left-channel : (ws out counts : List ℕ) (lent : Lent)
     → stepped ws (handing lent out counts) .next ≡ callFace ws lent out .channel
 left-channel ws out counts (input s) = refl
-left-channel ws out counts (cause n) = refl
+left-channel ws out counts (report cause score) = refl
 
 pub meets : {ws : List ℕ} {k : Call} {r : Reply} {next : List ℕ} → CalledFromC ws k r next → Meets channelIn ws k r next
 meets {ws} {k} {r} {next} c =
@@ -141,8 +143,8 @@ pub opened-numbers : (name : List ℕ) → channelIn (openFace name .channel) �
 unfolding openFace openChannel
 opened-numbers name =
     choose (λ (o : Opened). channelIn (numbersOf (o .channel)) ≡ o .channel) (wellNamed name)
-    (λ e. ap seenAs (load-saved (fresh name) (omega arith) (name-fits name e)))
-    (λ e. ap seenAs (load-saved (fresh []) (omega arith) (omega arith)))
+    (λ e. ap seenAs (load-saved (fresh name) (omega arith) (name-fits name e) (fresh-fit name)))
+    (λ e. ap seenAs (load-saved (fresh []) (omega arith) (omega arith) (fresh-fit [])))
 
 pub demand3-of-the-face : Demand3OfTheFace
 demand3-of-the-face name calls last run =

@@ -1,29 +1,28 @@
 -- What a handled call of the C face wrote is read as the very messages that were to be said: every message of an
 -- outcome is writable, and reading inverts writing. Assumes nothing.
-use Prim.Native.Nat.{ℕ, _≤_}
+use Prim.Native.Nat.{ℕ, _<_}
 use mathlib.Core.Path.{_≡_, refl, sym, ap, subst, _∙_}
 use mathlib.Core.Bool.{Bool, true, false}
 use mathlib.Core.Option.{Option, none, some}
 use mathlib.Core.List.{List, [], _∷_}
-use lib.Dec.{ltb}
+use lib.Ieee.{Float}
 use lib.ListN.{length}
-use borrow.Author.Tests.{ltb-false}
+use borrow.Author.Tests.{leb-false}
 use Rattle.lists.specs.Lists.{All}
-use Rattle.lists.proofs.Membership.{elem-head}
 use Rattle.message.specs.Message.{Reading, refused, message, request, response, event}
 use Rattle.message.specs.Reading.{readBytes, messagesIn}
 use Rattle.message.proofs.Theorems.IdsInRange.{id-bytes}
 use Rattle.answer.specs.Writable.{Writable}
-use Rattle.answer.proofs.Theorems.AnswersWritable.{complete-writable}
+use Rattle.answer.specs.Answers.{causeNames}
 use Rattle.answer.proofs.Theorems.ListsReadBack.{all-back}
-use Rattle.synth.specs.Channel.{View, ids, sound}
-use Rattle.synth.specs.Request.{requestOf}
+use Rattle.synth.specs.Channel.{View, kind, sound}
+use Rattle.synth.specs.Request.{methodOf, requestOf}
 use Rattle.ledger.specs.Ledger.{Turn}
-use Rattle.synth.specs.Calls.{Lent, input, cause, Call, Reply, call}
+use Rattle.synth.specs.Calls.{Lent, input, report, Call, Reply, isNoCause, call}
 use Rattle.synth.specs.declared.Entry.{Entry}
-use Rattle.synth.proofs.Channels.{Facts, sound-facts, held-small}
+use Rattle.synth.proofs.Channels.{Facts, sound-facts}
 use Rattle.synth.proofs.Methods.{judge-good}
-use Rattle.synth.proofs.Names.{name-fits}
+use Rattle.synth.proofs.Endings.{completed-good}
 use Rattle.demands.specs.Demands.{Line, table, firstDue, answering, ending, outcome, stated}
 use Rattle.demands.specs.FromC.{channelIn, ReadBackOfTheFace}
 use Rattle.demands.proofs.Lines.{Gives, tabled, not-0}
@@ -36,22 +35,21 @@ Due (some l) = Unit {0}
 module _ (v : View) (f : Facts v) where
   answer-writable : (s : List ℕ) (m : Reading (List ℕ)) → readBytes s ≡ m → All Writable (answering v m .says)
   answer-writable s (refused n k) e = tt
-  answer-writable s (message h (request name id) fs) e = judge-good v f (requestOf h name id fs) (id-bytes s h (request name id) fs e) .writable
+  answer-writable s (message h (request name id) fs) e = judge-good v f (requestOf (kind v) h name id fs) (id-bytes s h (request name id) fs e) (methodOf name) refl .writable
   answer-writable s (message h (response id status state) fs) e = tt
   answer-writable s (message h (event name id state) fs) e = tt
 
-  event-writable : (n : ℕ) → n ≤ 7 → (q : List Entry) → v .queue ≡ q → All Writable (ending v q n .says)
-  event-writable n h [] e = tt
-  event-writable n h (x ∷ q) e =
-      let id = held-small f (x .id) (rw e (elem-head (x .id) (ids q))) in
-      (complete-writable (v .name) (x .id) n (name-fits (v .name) (f .named)) id h, tt)
+  events-writable : (cause : ℕ) (score : Float) → cause < length (causeNames (kind v)) → (q : List Entry) → v .queue ≡ q
+      → All Writable (ending v q cause score .says)
+  events-writable cause score h [] e = tt
+  events-writable cause score h (x ∷ q) e = completed-good v f cause score x q e (kind v) refl h .writable
 
 -- where no line is due, the channel is sound and a report has a cause
 module _ (v : View) (room : ℕ) where
   damaged : (lent : Lent) → sound v ≡ false → Due (firstDue (table v lent room))
   unfolding table
   damaged (input s) b = rw (b, table) tt
-  damaged (cause n) b = rw (b, table) tt
+  damaged (report cause score) b = rw (b, table) tt
 
   sane : (lent : Lent) → firstDue (table v lent room) ≡ none → sound v ≡ true
   sane lent e = go (sound v) refl
@@ -60,20 +58,21 @@ module _ (v : View) (room : ℕ) where
       go true b = b
       go false b = absurd (subst Due e (damaged lent b))
 
-  no-cause : (n : ℕ) → sound v ≡ true → ltb 7 n ≡ true → Due (firstDue (table v (cause n) room))
-  unfolding table
-  no-cause n b h = rw (b, h, table) tt
+  module _ (cause : ℕ) (score : Float) where
+    no-cause : sound v ≡ true → isNoCause (kind v) cause ≡ true → Due (firstDue (table v (report cause score) room))
+    unfolding table
+    no-cause b h = rw (b, h, table) tt
 
-  a-cause : (n : ℕ) → firstDue (table v (cause n) room) ≡ none → n ≤ 7
-  a-cause n e = go (ltb 7 n) refl
-    where
-      go : (b : Bool) → ltb 7 n ≡ b → n ≤ 7
-      go true h = absurd (subst Due e (no-cause n (sane (cause n) e) h))
-      go false h = ltb-false 7 n h
+    a-cause : firstDue (table v (report cause score) room) ≡ none → cause < length (causeNames (kind v))
+    a-cause e = go (isNoCause (kind v) cause) refl
+      where
+        go : (b : Bool) → isNoCause (kind v) cause ≡ b → cause < length (causeNames (kind v))
+        go true h = absurd (subst Due e (no-cause (sane (report cause score) e) h))
+        go false h = leb-false (length (causeNames (kind v))) cause h
 
   writable : (lent : Lent) → firstDue (table v lent room) ≡ none → All Writable (outcome v lent .says)
   writable (input s) e = answer-writable v (sound-facts v (sane (input s) e)) s (readBytes s) refl
-  writable (cause n) e = event-writable v (sound-facts v (sane (cause n) e)) n (a-cause n e) (v .queue) refl
+  writable (report cause score) e = events-writable v (sound-facts v (sane (report cause score) e)) cause score (a-cause cause score e) (v .queue) refl
 
 -- what the definition of a call gives, by the line that is due
 by-line : (v : View) (k : Call) (o : Option Line) → firstDue (table v (k .lent) (k .room)) ≡ o

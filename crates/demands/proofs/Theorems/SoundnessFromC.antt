@@ -14,7 +14,7 @@ use Rattle.lists.specs.Lists.{All}
 use Rattle.lists.proofs.Tests.{choose}
 use Rattle.ledger.specs.Ledger.{Exchange, Turn, after, trace}
 use Rattle.synth.specs.Channel.{View, held, sound}
-use Rattle.synth.specs.Calls.{Lent, input, cause, Call, Reply}
+use Rattle.synth.specs.Calls.{Lent, input, report, Call, Reply}
 use Rattle.synth.proofs.Theorems.Soundness.{opened-sound, call-sound}
 use Rattle.channelnumbers.specs.Numbers.{viewOf}
 use Rattle.klarvesimo.specs.Face.{openFace, callFace, HeldFace, heldOn, heldFace}
@@ -47,7 +47,7 @@ list-stays (some v) ids e n =
 stays : (ws : List ℕ) (c : OnChannel) → sound (channelIn ws) ≡ true → Stays (stepped ws c)
 unfolding heldFace
 stays ws (handles s out counts) e = call-stays ws out (input s) e
-stays ws (reports n out written) e = call-stays ws out (cause n) e
+stays ws (reports cause score out written) e = call-stays ws out (report cause score) e
 stays ws (lists ids count) e = (e, list-stays (viewOf ws) ids e)
 
 all-stay : (calls : List OnChannel) (ws : List ℕ) → sound (channelIn ws) ≡ true

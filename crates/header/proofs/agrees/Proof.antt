@@ -3,7 +3,7 @@
 use mathlib.Core.Path.{sym, ap, _∙_}
 use Rattle.header.specs.Steps.{statedOf}
 use Rattle.message.specs.Message.{part}
-use Rattle.header.proofs.Numerals.{agrees-absent, agrees-given, equals}
+use Rattle.header.proofs.Lengths.{agrees-absent, agrees-given, equals}
 use borrow.Author.Needs.{needs}
 use Rattle.header.proofs.agrees.Statement.{statement}
 use Rattle.header.proofs.agrees.Tie as tie

@@ -1,7 +1,7 @@
 -- `header::number` meets its contract: each `return` by the digits at the front.
 -- Assumes nothing.
 use mathlib.Core.Path.{sym}
-use Rattle.header.proofs.Numerals.{stated-none, stated-part, stated-whole}
+use Rattle.header.proofs.Lengths.{stated-none, stated-part, stated-whole}
 use borrow.Author.Needs.{needs}
 use Rattle.header.proofs.number.Statement.{statement}
 use Rattle.header.proofs.number.Tie as tie
@@ -22,7 +22,8 @@ returns-2 c =
 returns-3 : tie.Need-returns-3
 returns-3 c =
     let d = c .before .before .digits-at in
-    sym (stated-whole (c .before .before .before .before .args .v .now) (d .result) (d .ensures) (c .before .if1 .left) (c .if2 .left))
+    let v = c .before .before .before .before .args .v .now in
+    sym (stated-whole v (d .result) (d .ensures) (c .before .if1 .left) (c .if2 .left))
 
 pub number-spec : {M : Type 1} → statement M
 number-spec = tie.close (tie.spec digits-at-requires returns returns-2 returns-3)

@@ -27,7 +27,7 @@ act-requires c κs = search needs
 
 returns : tie.Need-returns
 returns c =
-    λ h few major minor fs t.
+    λ k h few major minor fs t.
     let a = c .before .before .before .before .before .before .before .before .args in
     let v = view (a .last) (a .c) in
     let said = c .before .before .before .before .early .ensures h v major minor (a .m) fs refl refl t in
@@ -36,12 +36,12 @@ returns c =
 
 returns-2 : tie.Need-returns-2
 returns-2 c =
-    λ h few major minor fs t.
+    λ k h few major minor fs t.
     let a = c .before .before .before .before .before .before .before .args in
     let v = view (a .last) (a .c) in
     let said = c .before .before .before .early .ensures h v major minor (a .m) fs refl refl t in
     let passed = early-passes v major minor (a .m) (a .id) fs (ap verdictOf (sym (c .before .enum-told .given .1)) ∙ said) in
-    subst (Makes (view (Seen (a .id)) (a .c)) (c .act .result)) (sym passed) (c .act .ensures few (view (Seen (a .id)) (a .c)) major minor fs t)
+    subst (Makes (view (Seen (a .id)) (a .c)) (c .act .result)) (sym passed) (c .act .ensures few (view (Seen (a .id)) (a .c)) (sym k) major minor fs t)
 
 pub judge-fields-spec : {M : Type 1} → statement M
 judge-fields-spec =

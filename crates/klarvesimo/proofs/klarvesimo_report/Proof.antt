@@ -1,5 +1,5 @@
 -- `klarvesimo::klarvesimo_report` loads the channel, and saves it where the call was handled. Assumes nothing.
-use Rattle.synth.specs.Calls.{cause}
+use Rattle.synth.specs.Calls.{report}
 use Rattle.klarvesimo.proofs.Calling.{report-refused, report-answered}
 use borrow.Author.Needs.{needs}
 use Rattle.klarvesimo.proofs.klarvesimo_report.Statement.{statement}
@@ -20,7 +20,7 @@ same-length c = search needs
 returns : tie.Need-returns
 returns c =
     let a = c .before .before .before .before .before .before .before .before .before .before .args in
-    report-refused (a .channel .now) (a .out .now) (a .written .now) (cause (a .cause)) _ (c .before .before .before .before .before .before .before .load .ensures) _ _ (c .before .before .before .before .report .ensures) (c .if1 .taken)
+    report-refused (a .channel .now) (a .out .now) (a .written .now) (report (a .cause) (a .score)) _ (c .before .before .before .before .before .before .before .load .ensures) _ _ (c .before .before .before .before .report .ensures) (c .if1 .taken)
 
 save-requires : tie.Need-save-requires
 save-requires c κs = search needs
@@ -31,7 +31,7 @@ same-length-2 c = search needs
 returns-2 : tie.Need-returns-2
 returns-2 c =
     let a = c .before .before .before .before .before .before .before .before .before .before .before .before .before .args in
-    report-answered (a .channel .now) (a .out .now) (a .written .now) (cause (a .cause)) _ (c .before .before .before .before .before .before .before .before .before .before .load .ensures) _ _ (c .before .before .before .before .before .before .before .report .ensures) (c .before .before .before .if1 .left) (c .save .ensures .0)
+    report-answered (a .channel .now) (a .out .now) (a .written .now) (report (a .cause) (a .score)) _ (c .before .before .before .before .before .before .before .before .before .before .load .ensures) _ _ (c .before .before .before .before .before .before .before .report .ensures) (c .before .before .before .if1 .left) (c .save .ensures .0)
 
 pub klarvesimo-report-spec : {M : Type 1} → statement M
 klarvesimo-report-spec =

@@ -10,21 +10,24 @@ element-copy-out-if1 c = search needs
 returns : tie.Need-returns
 returns c =
     let ws = c .before .before .args .ws .now in
-    rw (lt-leb _ 2 (c .if1 .taken))
+    rw (lt-leb _ 4 (c .if1 .taken))
 
 element-copy-out-if2 : tie.Need-element-copy-out-if2
 element-copy-out-if2 c = search needs
 
 returns-2 : tie.Need-returns-2
 returns-2 c =
-    rw (le-leb _ 2 (c .before .before .if1 .left), lt-leb _ 4294967296 (c .if2 .taken))
+    rw (le-leb _ 4 (c .before .before .if1 .left), lt-leb _ 4294967296 (c .if2 .taken))
 
 element-copy-out-result : tie.Need-element-copy-out-result
 element-copy-out-result c = search needs
 
+most-requires : tie.Need-most-requires
+most-requires c κs = search needs
+
 returns-3 : tie.Need-returns-3
 returns-3 c =
-    rw (le-leb _ 2 (c .before .before .before .if1 .left), le-leb _ 4294967296 (c .before .if2 .left))
+    rw (le-leb _ 4 (c .before .before .before .before .if1 .left), le-leb _ 4294967296 (c .before .before .if2 .left), ← c .most .ensures .0)
 
 pub front-fits-spec : {M : Type 1} → statement M
 front-fits-spec =
@@ -35,4 +38,5 @@ front-fits-spec =
     element-copy-out-if2
     returns-2
     element-copy-out-result
+    most-requires
     returns-3)

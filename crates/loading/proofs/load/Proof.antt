@@ -4,11 +4,14 @@ use borrow.Author.Needs.{needs}
 use Rattle.loading.proofs.load.Statement.{statement}
 use Rattle.loading.proofs.load.Tie as tie
 
-load-queue-requires : tie.Need-load-queue-requires
-load-queue-requires c κs = search needs
-
 load-name-requires : tie.Need-load-name-requires
 load-name-requires c κs = search needs
+
+kind-by-requires : tie.Need-kind-by-requires
+kind-by-requires c κs = search needs
+
+load-queue-requires : tie.Need-load-queue-requires
+load-queue-requires c κs = search needs
 
 element-copy-out-state-at : tie.Need-element-copy-out-state-at
 element-copy-out-state-at c = search needs
@@ -24,14 +27,17 @@ last-at-requires c κs = search needs
 
 returns : tie.Need-returns
 returns c =
-    loads (c .before .before .before .before .before .before .args .ws .now) _ _ (c .before .before .before .before .before .load-queue .ensures) (c .before .before .before .before .load-name .ensures) (c .before .before .state-at .ensures) (c .last-at .ensures)
+    let at = c .before .before .before .before .before in
+    let queued = rw (at .kind-by .ensures) at (c .before .before .before .before .load-queue .ensures) in
+    loads (at .before .before .args .ws .now) _ _ (at .before .load-name .ensures) queued (c .before .before .state-at .ensures) (c .last-at .ensures)
 
 pub load-spec : {M : Type 1} → statement M
 load-spec =
     tie.close
     (tie.spec
-    load-queue-requires
     load-name-requires
+    kind-by-requires
+    load-queue-requires
     element-copy-out-state-at
     state-at-requires
     element-copy-out-last-at

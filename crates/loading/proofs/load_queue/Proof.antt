@@ -1,107 +1,150 @@
--- `loading::load_queue` meets its contract. The invariant: i numbers are summed up, and i entries are loaded.
--- The measure is what is left of the count. Assumes nothing.
-use Prim.Native.Nat.{_-_, _≤_}
-use mathlib.Core.Path.{_≡_, refl, sym, _∙_}
-use mathlib.Core.Bool.{false≢true}
+-- `loading::load_queue` meets its contract. The invariant of each loop: the bits of i numbers are gathered, and i of
+-- what they say are loaded. The measure is what is left of the count. Assumes nothing.
+use Prim.Native.Nat.{_-_, _+_, _≤_}
+use mathlib.Core.Path.{_≡_, refl, _∙_}
+use native.Mathlib.Nat.{le-trans}
 use native.Mathlib.Omega.{arith}
-use lib.ListN.{length, getD, length-set}
-use borrow.Author.Tests.{not-true, not-false}
-use Rattle.lists.specs.Lists.{all}
-use Rattle.lists.proofs.Tests.{both}
-use Rattle.queue.proofs.Queues.{within}
-use Rattle.channelnumbers.specs.Numbers.{numbersAt, isEntry}
-use Rattle.loading.specs.Steps.{frontFits}
-use Rattle.loading.proofs.Loading.{Summed, summed-none, summed-more, too-many, front-few, part-fits, part-unfit}
+use lib.ListN.{length, replicate, length-set}
+use Rattle.synth.specs.Kinds.{most}
+use Rattle.synth.proofs.Channels.{most-16}
+use Rattle.channelnumbers.specs.Steps.{thresholdCount}
+use Rattle.channelnumbers.proofs.Saving.{thresholds-8}
+use Rattle.loading.proofs.Loading.{Gathered, gathered-none, gathered-more, count-most, queue-part}
 use borrow.Author.Needs.{needs}
 use Rattle.loading.proofs.load_queue.Statement.{statement}
 use Rattle.loading.proofs.load_queue.Tie as tie
 
 abbrev Inv-loop : tie.InvT-loop
-Inv-loop ws entries₀ count over₀ i₀ entries over i = (i ≤ count) × (count ≤ 16) × (length entries ≡ 16) × Summed ws entries over i
+Inv-loop kind ws fits count numbers₀ bits₀ i₀ numbers bits i =
+    (i ≤ count) × (count ≤ 16) × (length numbers ≡ 16) × Gathered 33 (λ n. n) 4 ws numbers bits i
 
 abbrev μ-loop : tie.MeasureT-loop
-μ-loop ws entries₀ count over₀ i₀ entries over i = count - i
+μ-loop kind ws fits count numbers₀ bits₀ i₀ numbers bits i = count - i
 
-front-fits-requires : tie.Need-front-fits-requires Inv-loop μ-loop
+abbrev Inv-loop2 : tie.InvT-loop2
+Inv-loop2 ws fits count numbers bits i entries-fit levels thresholds₀ level-bits₀ j₀ thresholds level-bits j =
+    (j ≤ levels) × (levels ≤ 8) × (length thresholds ≡ 16) × (j ≡ 0 → thresholds ≡ replicate 16 0) × Gathered 32 (λ n. n) 12 ws thresholds level-bits j
+
+abbrev μ-loop2 : tie.MeasureT-loop2
+μ-loop2 ws fits count numbers bits i entries-fit levels thresholds₀ level-bits₀ j₀ thresholds level-bits j = levels - j
+
+-- no more are counted than the kind has
+counted : (c : tie.After-count-where Inv-loop μ-loop Inv-loop2 μ-loop2) → c .count-where .result ≤ most (c .before .before .before .args .kind)
+counted c =
+    let a = c .before .before .before .args in
+    rw (c .count-where .ensures) (count-most (a .ws .now) (a .kind) _ (c .before .before .front-fits .ensures))
+
+front-fits-requires : tie.Need-front-fits-requires Inv-loop μ-loop Inv-loop2 μ-loop2
 front-fits-requires c κs = search needs
 
-returns : tie.Need-returns Inv-loop μ-loop
-returns c =
-    let ws = c .before .before .args .ws .now in
-    let front = sym (c .before .front-fits .ensures) ∙ not-true _ (c .if1 .taken) in
-    part-unfit (λ z. false≢true (sym front ∙ both (frontFits ws) _ z .0)) (too-many _ refl)
+element-copy-out-count-where : tie.Need-element-copy-out-count-where Inv-loop μ-loop Inv-loop2 μ-loop2
+element-copy-out-count-where c = search needs
 
-element-copy-out-count : tie.Need-element-copy-out-count Inv-loop μ-loop
-element-copy-out-count c = search needs
+count-where-requires : tie.Need-count-where-requires Inv-loop μ-loop Inv-loop2 μ-loop2
+count-where-requires c κs = search needs
 
-loop-holds : tie.Need-loop-holds Inv-loop μ-loop
+loop-holds : tie.Need-loop-holds Inv-loop μ-loop Inv-loop2 μ-loop2
 loop-holds c =
-    let ws = c .before .before .before .args .ws .now in
-    let front = sym (c .before .before .front-fits .ensures) ∙ not-false _ (c .before .if1 .left) in
-    (omega arith, front-few ws front, refl, summed-none ws _)
+    let a = c .before .before .before .args in
+    (omega arith, le-trans (counted c) (most-16 (a .kind)), refl, gathered-none (a .ws .now) _ (omega arith))
 
-add-n : tie.Need-add-n Inv-loop μ-loop
+add-n : tie.Need-add-n Inv-loop μ-loop Inv-loop2 μ-loop2
 add-n c = search needs
 
-mul-n : tie.Need-mul-n Inv-loop μ-loop
+mul-n : tie.Need-mul-n Inv-loop μ-loop Inv-loop2 μ-loop2
 mul-n c = search needs
 
-element-copy-out-n : tie.Need-element-copy-out-n Inv-loop μ-loop
+element-copy-out-n : tie.Need-element-copy-out-n Inv-loop μ-loop Inv-loop2 μ-loop2
 element-copy-out-n c = search needs
 
-past-entries-requires : tie.Need-past-entries-requires Inv-loop μ-loop
-past-entries-requires c κs = search needs
+mul-numbers : tie.Need-mul-numbers Inv-loop μ-loop Inv-loop2 μ-loop2
+mul-numbers c = search needs
 
-add-over : tie.Need-add-over Inv-loop μ-loop
-add-over c =
-    let inv = c .before .before .before .loop .inv in
-    let few = inv .3 .few in
-    let more = c .past-entries .ensures .1 in
-    search (needs, few, more)
+array-write-numbers : tie.Need-array-write-numbers Inv-loop μ-loop Inv-loop2 μ-loop2
+array-write-numbers c = search needs
 
-entry-at-requires : tie.Need-entry-at-requires Inv-loop μ-loop
-entry-at-requires c κs = search needs
-
-mul-entries : tie.Need-mul-entries Inv-loop μ-loop
-mul-entries c = search needs
-
-array-set-from-entries : tie.Need-array-set-from-entries Inv-loop μ-loop
-array-set-from-entries c = search needs
-
-add-i : tie.Need-add-i Inv-loop μ-loop
+add-i : tie.Need-add-i Inv-loop μ-loop Inv-loop2 μ-loop2
 add-i c = search needs
 
-loop-less : tie.Need-loop-less Inv-loop μ-loop
+loop-less : tie.Need-loop-less Inv-loop μ-loop Inv-loop2 μ-loop2
 loop-less c = search needs
 
-loop-again : tie.Need-loop-again Inv-loop μ-loop
+loop-again : tie.Need-loop-again Inv-loop μ-loop Inv-loop2 μ-loop2
 loop-again c =
-    let ws = c .before .before .before .before .before .before .before .before .args .ws .now in
-    let l = c .before .before .before .before .loop in
+    let ws = c .before .before .before .before .before .before .args .ws .now in
+    let l = c .before .before .loop in
+    let inv = l .inv in
+    (omega arith, inv .1, length-set (l .numbers) (l .i) _ ∙ inv .2, gathered-more ws (l .numbers) (l .bits) (l .i) _ (omega arith) (λ t. refl) (inv .3))
+
+fits-below-requires : tie.Need-fits-below-requires Inv-loop μ-loop Inv-loop2 μ-loop2
+fits-below-requires c κs = search needs
+
+threshold-count-requires : tie.Need-threshold-count-requires Inv-loop μ-loop Inv-loop2 μ-loop2
+threshold-count-requires c κs = search needs
+
+loop2-holds : tie.Need-loop2-holds Inv-loop μ-loop Inv-loop2 μ-loop2
+loop2-holds c =
+    let a = c .before .before .before .before .before .before .before .args in
+    let count = c .before .before .before .before in (
+      omega arith,
+      rw (c .threshold-count .ensures) (thresholds-8 (a .kind) (count .count-where .result) (counted count)),
+      refl,
+      λ z. refl,
+      gathered-none (a .ws .now) _ (omega arith),
+    )
+
+add-n-2 : tie.Need-add-n-2 Inv-loop μ-loop Inv-loop2 μ-loop2
+add-n-2 c = search needs
+
+mul-n-2 : tie.Need-mul-n-2 Inv-loop μ-loop Inv-loop2 μ-loop2
+mul-n-2 c = search needs
+
+element-copy-out-n-2 : tie.Need-element-copy-out-n-2 Inv-loop μ-loop Inv-loop2 μ-loop2
+element-copy-out-n-2 c = search needs
+
+threshold-at-requires : tie.Need-threshold-at-requires Inv-loop μ-loop Inv-loop2 μ-loop2
+threshold-at-requires c κs = search needs
+
+mul-thresholds : tie.Need-mul-thresholds Inv-loop μ-loop Inv-loop2 μ-loop2
+mul-thresholds c = search needs
+
+array-write-thresholds : tie.Need-array-write-thresholds Inv-loop μ-loop Inv-loop2 μ-loop2
+array-write-thresholds c = search needs
+
+add-j : tie.Need-add-j Inv-loop μ-loop Inv-loop2 μ-loop2
+add-j c = search needs
+
+loop2-less : tie.Need-loop2-less Inv-loop μ-loop Inv-loop2 μ-loop2
+loop2-less c = search needs
+
+loop2-again : tie.Need-loop2-again Inv-loop μ-loop Inv-loop2 μ-loop2
+loop2-again c =
+    let ws = c .before .before .before .before .before .before .before .before .before .before .before .args .ws .now in
+    let l = c .before .before .before .loop2 in
     let inv = l .inv in (
       omega arith,
       inv .1,
-      length-set (l .entries) (l .i) _ ∙ inv .2,
-      summed-more ws (l .entries) (l .over) (l .i) _ _ _ refl (c .before .past-entries .ensures) (omega arith) (c .entry-at .ensures) (inv .3),
+      length-set (l .thresholds) (l .j) _ ∙ inv .2,
+      λ z. absurd (let y : l .j + 1 ≡ 0 = z in omega arith),
+      gathered-more ws (l .thresholds) (l .level-bits) (l .j) _ (omega arith) (λ t. c .threshold-at .ensures t) (inv .4),
     )
 
-returns-2 : tie.Need-returns-2 Inv-loop μ-loop
-returns-2 c =
-    let ws = c .before .before .before .before .before .before .args .ws .now in
-    let l = c .before .before .loop in
-    let end : l .i ≡ getD ws 2 0 = omega (arith, l .inv .0, c .before .loop-test .left) in
-    part-unfit
-    (λ z. c .if2 .taken (l .inv .3 .over-none (rw end (both (frontFits ws) (all isEntry (numbersAt 4 (getD ws 2 0) ws)) z .1))))
-    (too-many (l .entries) (l .inv .2))
+fits-below-requires-2 : tie.Need-fits-below-requires-2 Inv-loop μ-loop Inv-loop2 μ-loop2
+fits-below-requires-2 c κs = search needs
 
-returns-3 : tie.Need-returns-3 Inv-loop μ-loop
-returns-3 c =
-    let ws = c .before .before .before .before .before .before .args .ws .now in
-    let l = c .before .before .loop in
-    let front = sym (c .before .before .before .before .before .front-fits .ensures) ∙ not-false _ (c .before .before .before .before .if1 .left) in
-    let end : l .i ≡ getD ws 2 0 = omega (arith, l .inv .0, c .before .loop-test .left) in
-    let all-fit = l .inv .3 .entry (c .if2 .left) in
-    part-fits (rw (front, rw end at (all-fit .0))) (within _ (l .inv .1) ∙ rw end at (all-fit .1))
+count-loaded-requires : tie.Need-count-loaded-requires Inv-loop μ-loop Inv-loop2 μ-loop2
+count-loaded-requires c κs = search needs
+
+returns : tie.Need-returns Inv-loop μ-loop Inv-loop2 μ-loop2
+returns c =
+    let a = c .before .before .before .before .before .before .before .before .before .before .before .args in
+    let l = c .before .before .before .before .before .before .before .loop in
+    let m = c .before .before .before .loop2 in
+    let count = c .before .before .before .before .before .before .before .before .count-where in
+    let end : l .i ≡ count .result = omega (arith, l .inv .0, c .before .before .before .before .before .before .loop-test .left) in
+    let levels : m .j ≡ thresholdCount (a .kind) (count .result) = omega (arith, m .inv .0, c .before .before .loop2-test .left, c .before .before .before .before .threshold-count .ensures) in
+    queue-part (a .ws .now) (a .kind) (l .numbers) (m .thresholds) (c .count-loaded .result) (l .inv .2) (m .inv .2) _ (c .before .before .before .before .before .before .before .before .before .before .front-fits .ensures) (count .ensures) (rw end at (l .inv .3))
+    (rw levels at (m .inv .4)) (rw levels at (m .inv .3)) (c .before .before .before .before .before .fits-below .ensures) (c .before .fits-below2 .ensures) (c .count-loaded .ensures)
 
 pub load-queue-spec : {M : Type 1} → statement M
 load-queue-spec =
@@ -109,20 +152,32 @@ load-queue-spec =
     (tie.spec
     Inv-loop
     μ-loop
+    Inv-loop2
+    μ-loop2
     front-fits-requires
-    returns
-    element-copy-out-count
+    element-copy-out-count-where
+    count-where-requires
     loop-holds
     add-n
     mul-n
     element-copy-out-n
-    past-entries-requires
-    add-over
-    entry-at-requires
-    mul-entries
-    array-set-from-entries
+    mul-numbers
+    array-write-numbers
     add-i
     loop-less
     loop-again
-    returns-2
-    returns-3)
+    fits-below-requires
+    threshold-count-requires
+    loop2-holds
+    add-n-2
+    mul-n-2
+    element-copy-out-n-2
+    threshold-at-requires
+    mul-thresholds
+    array-write-thresholds
+    add-j
+    loop2-less
+    loop2-again
+    fits-below-requires-2
+    count-loaded-requires
+    returns)

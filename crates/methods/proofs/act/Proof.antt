@@ -32,11 +32,11 @@ Does state q v f h o major minor id fs m =
     Tells f h fs → Makes w o (afterLate (late w r) w r)
 
 asked-ignored : (c : tie.After-meets) (v : View) (major minor : ℕ) (fs : Fields (List ℕ)) → let a = c .before .before .args in
-    Tells (a .f .now) (a .h) fs → (m : Method) → map (λ k. bit 156 (indexOf k)) each ≡ map (ignored m) each
+    Tells (a .f .now) (a .h) fs → (m : Method) → map (λ k. bit 412 (indexOf k)) each ≡ map (ignored m) each
     → c .meets .result ≡ ignoresAny (asked major minor m (a .id) fs)
 asked-ignored c v major minor fs told m e =
     let a = c .before .before .args in
-    c .meets .ensures ∙ ignores (a .f .now) (a .h) fs told major minor (a .id) m 156 e
+    c .meets .ensures ∙ ignores (a .f .now) (a .h) fs told major minor (a .id) m 412 e
 
 meets-requires : tie.Need-meets-requires
 meets-requires c κs = search needs
@@ -86,49 +86,73 @@ method-not-allowed-requires c κs = search needs
 failed-requires : tie.Need-failed-requires
 failed-requires c κs = search needs
 
+enum-told-8 : tie.Need-enum-told-8
+enum-told-8 c = search needs
+
+recognize-requires : tie.Need-recognize-requires
+recognize-requires c κs = search needs
+
+enum-told-9 : tie.Need-enum-told-9
+enum-told-9 c = search needs
+
+start-timers-requires : tie.Need-start-timers-requires
+start-timers-requires c κs = search needs
+
 returns : tie.Need-returns
 returns c =
-    λ few v major minor fs.
+    λ few v of major minor fs.
     let a = c .before .before .before .before .before .args in
-    subst (Does (a .state) (a .q) v (a .f .now) (a .h) (c .speak .result) major minor (a .id) fs) (sym (c .before .enum-told .given .1)) (c .speak .ensures v major minor fs)
+    subst (Does (a .state) (a .q) v (a .f .now) (a .h) (c .speak .result) major minor (a .id) fs) (sym (c .before .enum-told .given .1)) (c .speak .ensures v of major minor fs)
 
 returns-2 : tie.Need-returns-2
 returns-2 c =
-    λ few v major minor fs.
+    λ few v of major minor fs.
     let a = c .before .before .before .before .before .args in
     subst (Does (a .state) (a .q) v (a .f .now) (a .h) (c .stop .result) major minor (a .id) fs) (sym (c .before .enum-told2 .given .1)) (c .stop .ensures few v major minor fs)
 
 returns-3 : tie.Need-returns-3
 returns-3 c =
-    λ few v major minor fs.
+    λ few v of major minor fs.
     let a = c .before .before .before .before .before .args in
     subst (Does (a .state) (a .q) v (a .f .now) (a .h) (c .pause .result) major minor (a .id) fs) (sym (c .before .enum-told3 .given .1)) (λ told. c .pause .ensures v major minor fs (asked-ignored (c .before .before .before) v major minor fs told Method.Pause refl))
 
 returns-4 : tie.Need-returns-4
 returns-4 c =
-    λ few v major minor fs.
+    λ few v of major minor fs.
     let a = c .before .before .before .before .before .args in
     subst (Does (a .state) (a .q) v (a .f .now) (a .h) (c .resume .result) major minor (a .id) fs) (sym (c .before .enum-told4 .given .1)) (λ told. c .resume .ensures v major minor fs (asked-ignored (c .before .before .before) v major minor fs told Method.Resume refl))
 
 returns-5 : tie.Need-returns-5
 returns-5 c =
-    λ few v major minor fs.
+    λ few v of major minor fs.
     let a = c .before .before .before .before .before .args in
     subst (Does (a .state) (a .q) v (a .f .now) (a .h) (c .control .result) major minor (a .id) fs) (sym (c .before .enum-told5 .given .1)) (λ told. c .control .ensures v major minor fs (asked-ignored (c .before .before .before) v major minor fs told Method.Control refl))
 
 returns-6 : tie.Need-returns-6
 returns-6 c =
-    λ few v major minor fs.
+    λ few v of major minor fs.
     let a = c .before .before .before .before .before .args in
     subst (Does (a .state) (a .q) v (a .f .now) (a .h) (c .barge-in .result) major minor (a .id) fs) (sym (c .before .enum-told6 .given .1)) (λ told. c .barge-in .ensures few v major minor fs (asked-ignored (c .before .before .before) v major minor fs told Method.BargeInOccurred refl))
 
 returns-7 : tie.Need-returns-7
 returns-7 c =
-    λ few v major minor fs.
+    λ few v of major minor fs.
     let a = c .before .before .before .before .before .before .args in
     subst (Does (a .state) (a .q) v (a .f .now) (a .h) (c .failed .result) major minor (a .id) fs) (sym (c .before .before .enum-told7 .given .1))
     (λ told. makes-failed v (asked major minor Method.Unknown (a .id) fs) (a .state) (a .q) 401 (c .before .method-not-allowed .ensures) (c .failed .ensures)
     (unknown-fails (withQueue (a .state) (listOf (a .q)) v) major minor (a .id) fs))
+
+returns-8 : tie.Need-returns-8
+returns-8 c =
+    λ few v of major minor fs.
+    let a = c .before .before .before .before .before .args in
+    subst (Does (a .state) (a .q) v (a .f .now) (a .h) (c .recognize .result) major minor (a .id) fs) (sym (c .before .enum-told8 .given .1)) (c .recognize .ensures v of major minor fs)
+
+returns-9 : tie.Need-returns-9
+returns-9 c =
+    λ few v of major minor fs.
+    let a = c .before .before .before .before .before .args in
+    subst (Does (a .state) (a .q) v (a .f .now) (a .h) (c .start-timers .result) major minor (a .id) fs) (sym (c .before .enum-told9 .given .1)) (λ told. c .start-timers .ensures v major minor fs (asked-ignored (c .before .before .before) v major minor fs told Method.StartInputTimers refl))
 
 pub act-spec : {M : Type 1} → statement M
 act-spec =
@@ -150,10 +174,16 @@ act-spec =
     enum-told-7
     method-not-allowed-requires
     failed-requires
+    enum-told-8
+    recognize-requires
+    enum-told-9
+    start-timers-requires
     returns
     returns-2
     returns-3
     returns-4
     returns-5
     returns-6
-    returns-7)
+    returns-7
+    returns-8
+    returns-9)

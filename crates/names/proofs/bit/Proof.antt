@@ -30,6 +30,9 @@ enum-told-7 c = search needs
 enum-told-8 : tie.Need-enum-told-8
 enum-told-8 c = search needs
 
+enum-told-9 : tie.Need-enum-told-9
+enum-told-9 c = search needs
+
 returns : tie.Need-returns
 returns c = ap bitOf (sym (c .enum-told .given .1))
 
@@ -54,6 +57,9 @@ returns-7 c = ap bitOf (sym (c .enum-told7 .given .1))
 returns-8 : tie.Need-returns-8
 returns-8 c = ap bitOf (sym (c .enum-told8 .given .1))
 
+returns-9 : tie.Need-returns-9
+returns-9 c = ap bitOf (sym (c .enum-told9 .given .1))
+
 pub bit-spec : {M : Type 1} → statement M
 bit-spec =
     tie.close
@@ -66,6 +72,7 @@ bit-spec =
     enum-told-6
     enum-told-7
     enum-told-8
+    enum-told-9
     returns
     returns-2
     returns-3
@@ -73,4 +80,5 @@ bit-spec =
     returns-5
     returns-6
     returns-7
-    returns-8)
+    returns-8
+    returns-9)

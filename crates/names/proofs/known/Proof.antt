@@ -4,7 +4,7 @@ use mathlib.Core.Path.{sym, ap, _∙_}
 use Rattle.message.specs.Known.{orElse}
 use Rattle.message.specs.declared.Known.the-variants.{ChannelIdentifier, ContentLength, ContentType}
 use Rattle.message.specs.declared.Known.the-variants.{ActiveRequestIdList, KillOnBargeIn, ProxySyncId, LoggingTag}
-use Rattle.message.specs.declared.Known.the-variants.{Unknown}
+use Rattle.message.specs.declared.Known.the-variants.{Unknown, ConfidenceThreshold}
 use Rattle.names.proofs.Names.{known-by, known-none}
 use borrow.Author.Needs.{needs}
 use Rattle.names.proofs.known.Statement.{statement}
@@ -64,11 +64,17 @@ alike-requires-6 c κs = search needs
 or-unknown-requires-6 : tie.Need-or-unknown-requires-6
 or-unknown-requires-6 c κs = search needs
 
-is-active-request-id-list-requires : tie.Need-is-active-request-id-list-requires
-is-active-request-id-list-requires c κs = search needs
+is-confidence-threshold-requires : tie.Need-is-confidence-threshold-requires
+is-confidence-threshold-requires c κs = search needs
 
 or-unknown-requires-7 : tie.Need-or-unknown-requires-7
 or-unknown-requires-7 c κs = search needs
+
+is-active-request-id-list-requires : tie.Need-is-active-request-id-list-requires
+is-active-request-id-list-requires c κs = search needs
+
+or-unknown-requires-8 : tie.Need-or-unknown-requires-8
+or-unknown-requires-8 c κs = search needs
 
 returns : tie.Need-returns
 returns c =
@@ -110,14 +116,21 @@ returns-7 : tie.Need-returns-7
 returns-7 c =
     let n = c .before .before .before .before .args .n .now in
     c .or-unknown7 .ensures
-    ∙ ap (λ b. orElse b ActiveRequestIdList Unknown) (c .before .is-active-request-id-list .ensures)
-    ∙ sym (known-by n ActiveRequestIdList (search needs))
+    ∙ ap (λ b. orElse b ConfidenceThreshold Unknown) (c .before .is-confidence-threshold .ensures)
+    ∙ sym (known-by n ConfidenceThreshold (search needs))
 
 returns-8 : tie.Need-returns-8
 returns-8 c =
+    let n = c .before .before .before .before .args .n .now in
+    c .or-unknown8 .ensures
+    ∙ ap (λ b. orElse b ActiveRequestIdList Unknown) (c .before .is-active-request-id-list .ensures)
+    ∙ sym (known-by n ActiveRequestIdList (search needs))
+
+returns-9 : tie.Need-returns-9
+returns-9 c =
     let r = c .match .rest in
-    sym (known-none (c .before .before .args .n .now) (r .0 .0 .0 .0 .0 .0 .1) (r .0 .0 .0 .0 .0 .1) (r .0 .0 .0 .0 .1)
-    (r .0 .0 .0 .1) (r .0 .0 .1) (r .0 .1) (r .1))
+    sym (known-none (c .before .before .args .n .now) (r .0 .0 .0 .0 .0 .0 .0 .1) (r .0 .0 .0 .0 .0 .0 .1)
+    (r .0 .0 .0 .0 .0 .1) (r .0 .0 .0 .0 .1) (r .0 .0 .0 .1) (r .0 .0 .1) (r .0 .1) (r .1))
 
 pub known-spec : {M : Type 1} → statement M
 known-spec =
@@ -141,8 +154,10 @@ known-spec =
     slice-aggregate-alike-6
     alike-requires-6
     or-unknown-requires-6
-    is-active-request-id-list-requires
+    is-confidence-threshold-requires
     or-unknown-requires-7
+    is-active-request-id-list-requires
+    or-unknown-requires-8
     returns
     returns-2
     returns-3
@@ -150,4 +165,5 @@ known-spec =
     returns-5
     returns-6
     returns-7
-    returns-8)
+    returns-8
+    returns-9)

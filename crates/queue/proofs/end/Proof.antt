@@ -3,26 +3,28 @@
 use Prim.Native.Nat.{_-_, _≤_}
 use mathlib.Core.Path.{_≡_, refl, sym, ap, _∙_}
 use mathlib.Core.Bool.{true, false}
-use mathlib.Core.List.{_++_}
+use mathlib.Core.List.{List, _++_}
 use native.Mathlib.Omega.{arith}
 use lib.ListN.{length, take, drop}
 use lib.Seq.{length-take-le}
 use Rattle.synth.specs.Channel.{ids as idsOf}
-use Rattle.queue.specs.Queue.{marked}
-use Rattle.queue.proofs.Queues.{count-is, entries-16, within}
-use Rattle.queue.proofs.Turns.{other, kept, listed, all-kept, all-listed}
+use Rattle.synth.specs.declared.Entry.{Entry}
+use Rattle.queue.specs.Queue.{entriesOf, marked}
+use Rattle.queue.proofs.Queues.{entriesIn, numbers-16, levels-16, count-is, within}
+use Rattle.queue.proofs.Turns.{passed, number-kept, id-listed, all-kept, all-listed}
 use borrow.Author.Needs.{needs}
 use Rattle.queue.proofs.end.Statement.{statement}
 use Rattle.queue.proofs.end.Tie as tie
 
 abbrev Inv-loop : tie.InvT-loop
-Inv-loop mask held old entries₀ left₀ ids₀ gone₀ i₀ entries left ids gone i =
-    (i ≤ held) × (held ≤ 16) × (left ≤ i) × (gone ≤ i) × (length entries ≡ 16) × (length ids ≡ 16) × (length old ≡ 16)
-    × (marked false mask 0 (take held old) ≡ take left entries ++ marked false mask i (drop i (take held old)))
-    × (idsOf (marked true mask 0 (take held old)) ≡ take gone ids ++ idsOf (marked true mask i (drop i (take held old))))
+Inv-loop mask count old levels numbers₀ thresholds₀ left₀ ids₀ gone₀ i₀ numbers thresholds left ids gone i =
+    let queue : List Entry = entriesOf old levels in
+    (i ≤ count) × (count ≤ 16) × (left ≤ i) × (gone ≤ i) × (length numbers ≡ 16) × (length thresholds ≡ 16) × (length ids ≡ 16) × (length old ≡ 16) × (length levels ≡ 16)
+    × (marked false mask 0 (take count queue) ≡ take left (entriesOf numbers thresholds) ++ marked false mask i (drop i (take count queue)))
+    × (idsOf (marked true mask 0 (take count queue)) ≡ take gone ids ++ idsOf (marked true mask i (drop i (take count queue))))
 
 abbrev μ-loop : tie.MeasureT-loop
-μ-loop mask held old entries₀ left₀ ids₀ gone₀ i₀ entries left ids gone i = held - i
+μ-loop mask count old levels numbers₀ thresholds₀ left₀ ids₀ gone₀ i₀ numbers thresholds left ids gone i = count - i
 
 list-none-requires : tie.Need-list-none-requires Inv-loop μ-loop
 list-none-requires c κs = search needs
@@ -36,19 +38,30 @@ returns c =
 
 loop-holds : tie.Need-loop-holds Inv-loop μ-loop
 loop-holds c =
-    (omega arith, c .before .if1 .left, omega arith, omega arith, refl, refl, entries-16 (c .before .before .args .q) _ (c .before .before .good .0), refl, refl)
+    let at = c .before .before .before in
+    let q = at .args .q in
+    (omega arith, c .before .before .if1 .left, omega arith, omega arith, refl, refl, refl, numbers-16 q _ (at .good .0), levels-16 q _ (at .good .0), refl, refl)
 
-mul-e : tie.Need-mul-e Inv-loop μ-loop
-mul-e c = search needs
+mul-n : tie.Need-mul-n Inv-loop μ-loop
+mul-n c = search needs
 
-array-copy-out-e : tie.Need-array-copy-out-e Inv-loop μ-loop
-array-copy-out-e c = search needs
+array-read-n : tie.Need-array-read-n Inv-loop μ-loop
+array-read-n c = search needs
+
+mul-level : tie.Need-mul-level Inv-loop μ-loop
+mul-level c = search needs
+
+array-read-level : tie.Need-array-read-level Inv-loop μ-loop
+array-read-level c = search needs
 
 bit-requires : tie.Need-bit-requires Inv-loop μ-loop
 bit-requires c κs = search needs
 
 add-i : tie.Need-add-i Inv-loop μ-loop
 add-i c = search needs
+
+id-in-requires : tie.Need-id-in-requires Inv-loop μ-loop
+id-in-requires c κs = search needs
 
 mul-ids : tie.Need-mul-ids Inv-loop μ-loop
 mul-ids c = search needs
@@ -65,26 +78,36 @@ loop-less c = search needs
 loop-again : tie.Need-loop-again Inv-loop μ-loop
 loop-again c =
     let at = c .before .before .before .before in
-    let args = at .before .before .before .args in
+    let args = at .before .before .before .before .args in
     let l = at .loop in
+    let inv = l .inv in
     let q = args .q in
-    let set = sym (c .before .bit .ensures) ∙ c .if2 .taken in (
+    let set = sym (c .before .before .bit .ensures) ∙ c .before .if2 .taken in
+    let many = inv .8 ∙ sym (inv .7) in (
       omega arith,
-      l .inv .1,
+      inv .1,
       omega arith,
       omega arith,
-      l .inv .4,
+      inv .4,
+      inv .5,
       search needs,
-      l .inv .6,
-      l .inv .7 ∙ ap (λ r. take (l .left) (l .entries) ++ r) (other (args .mask) (q .entries) (q .count) (l .i) (l .gone) (omega arith) (omega arith) false (rw set)),
-      l .inv .8 ∙ listed (args .mask) (q .entries) (q .count) (l .i) (l .gone) (omega arith) (omega arith) (l .ids) (omega arith) set,
+      inv .7,
+      inv .8,
+      inv .9 ∙ ap (λ r. take (l .left) (entriesOf (l .numbers) (l .thresholds)) ++ r) (passed (args .mask) (q .numbers) (q .thresholds) many (q .count) (l .i) (l .gone) (omega arith) (omega arith) false (rw set)),
+      rw (c .id-in .ensures) (inv .10 ∙ id-listed (args .mask) (q .numbers) (q .thresholds) many (q .count) (l .i) (l .gone) (omega arith) (omega arith) (l .ids) (omega arith) set),
     )
 
-mul-entries : tie.Need-mul-entries Inv-loop μ-loop
-mul-entries c = search needs
+mul-numbers : tie.Need-mul-numbers Inv-loop μ-loop
+mul-numbers c = search needs
 
-array-set-from-entries : tie.Need-array-set-from-entries Inv-loop μ-loop
-array-set-from-entries c = search needs
+array-write-numbers : tie.Need-array-write-numbers Inv-loop μ-loop
+array-write-numbers c = search needs
+
+mul-thresholds : tie.Need-mul-thresholds Inv-loop μ-loop
+mul-thresholds c = search needs
+
+array-write-thresholds : tie.Need-array-write-thresholds Inv-loop μ-loop
+array-write-thresholds c = search needs
 
 add-left : tie.Need-add-left Inv-loop μ-loop
 add-left c = search needs
@@ -94,37 +117,41 @@ loop-less-2 c = search needs
 
 loop-again-2 : tie.Need-loop-again-2 Inv-loop μ-loop
 loop-again-2 c =
-    let at = c .before .before .before .before in
-    let args = at .before .before .before .args in
+    let at = c .before .before .before in
+    let args = at .before .before .before .before .args in
     let l = at .loop in
+    let inv = l .inv in
     let q = args .q in
-    let clear = sym (c .before .bit .ensures) ∙ c .if2 .left in (
+    let clear = sym (c .before .bit .ensures) ∙ c .if2 .left in
+    let many = inv .8 ∙ sym (inv .7) in (
       omega arith,
-      l .inv .1,
+      inv .1,
       omega arith,
       omega arith,
       search needs,
-      l .inv .5,
-      l .inv .6,
-      l .inv .7 ∙ kept (args .mask) (q .entries) (q .count) (l .i) (l .left) (omega arith) (omega arith) (l .entries) (omega arith) clear,
-      l .inv .8 ∙ ap (λ r. take (l .gone) (l .ids) ++ idsOf r) (other (args .mask) (q .entries) (q .count) (l .i) (l .left) (omega arith) (omega arith) true (rw clear)),
+      search needs,
+      inv .6,
+      inv .7,
+      inv .8,
+      inv .9 ∙ number-kept (args .mask) (q .numbers) (q .thresholds) many (q .count) (l .i) (l .left) (omega arith) (omega arith) (l .numbers) (l .thresholds) (inv .5 ∙ sym (inv .4)) (omega arith) clear,
+      inv .10 ∙ ap (λ r. take (l .gone) (l .ids) ++ idsOf r) (passed (args .mask) (q .numbers) (q .thresholds) many (q .count) (l .i) (l .left) (omega arith) (omega arith) true (rw clear)),
     )
 
 returns-2 : tie.Need-returns-2 Inv-loop μ-loop
 returns-2 c =
     let at = c .before in
-    let start = at .before .before .before in
+    let start = at .before .before .before .before in
     let q = start .args .q in
     let mask = start .args .mask in
     let l = at .loop in
-    let few = at .before .before .if1 .left in
+    let few = l .inv .1 in
     let done = c .loop-test .left in
-    let rest = l .inv .7 ∙ all-kept mask (q .entries) (q .count) (l .i) (l .left) done (l .entries) in
-    let gone = sym (l .inv .8 ∙ all-listed mask (q .entries) (q .count) (l .i) (l .gone) done (l .ids)) in (
+    let rest = l .inv .9 ∙ all-kept mask (entriesIn q) (q .count) (l .i) (l .left) done (entriesOf (l .numbers) (l .thresholds)) in
+    let gone = sym (l .inv .10 ∙ all-listed mask (entriesIn q) (q .count) (l .i) (l .gone) done (l .ids)) in (
       λ _. rw (within q few)
           (record {
             lists = record { shown = gone; counted = sym (length-take-le (l .gone) (l .ids) (omega arith)) ∙ ap length gone; few = omega arith };
-            left = within (record { entries = l .entries; count = l .left }) (omega arith) ∙ sym rest;
+            left = within (record { numbers = l .numbers; thresholds = l .thresholds; count = l .left }) (omega arith) ∙ sym rest;
           }),
       λ many. absurd (omega (arith, many, few, count-is q _ (start .good .0))),
     )
@@ -138,17 +165,22 @@ end-spec =
     list-none-requires
     returns
     loop-holds
-    mul-e
-    array-copy-out-e
+    mul-n
+    array-read-n
+    mul-level
+    array-read-level
     bit-requires
     add-i
+    id-in-requires
     mul-ids
     array-write-ids
     add-gone
     loop-less
     loop-again
-    mul-entries
-    array-set-from-entries
+    mul-numbers
+    array-write-numbers
+    mul-thresholds
+    array-write-thresholds
     add-left
     loop-less-2
     loop-again-2

@@ -1,11 +1,12 @@
 -- `queue::join` stores the entry past the last one, and counts it, where there is room. Assumes nothing.
 use Prim.Native.Nat.{_+_, _<_, _≤_}
-use mathlib.Core.Path.{_≡_, refl, _∙_}
+use mathlib.Core.Path.{_≡_, refl, ap, _∙_}
 use native.Mathlib.Numerals.{add-one}
 use native.Mathlib.Omega.{arith}
-use lib.ListN.{length, set}
+use lib.ListN.{length, take, set}
 use lib.Seq.{take-suc-set}
-use Rattle.queue.proofs.Queues.{entries-16, count-is, within}
+use Rattle.queue.specs.Queue.{entryOf}
+use Rattle.queue.proofs.Queues.{entriesIn, as-many, entries-16, count-is, within, entry-set}
 use borrow.Author.Needs.{needs}
 use Rattle.queue.proofs.join.Statement.{statement}
 use Rattle.queue.proofs.join.Tie as tie
@@ -13,27 +14,49 @@ use Rattle.queue.proofs.join.Tie as tie
 returns : tie.Need-returns
 returns c = let at = c .before in (λ room. absurd (omega (arith, room, count-is (at .args .q) _ (at .good .0), c .if1 .taken)), λ full. refl)
 
-mul-entries : tie.Need-mul-entries
-mul-entries c = search needs
+number-requires : tie.Need-number-requires
+number-requires c κs = search needs
 
-array-set-from-entries : tie.Need-array-set-from-entries
-array-set-from-entries c = search needs
+mul-numbers : tie.Need-mul-numbers
+mul-numbers c = search needs
 
-add-t6 : tie.Need-add-t6
-add-t6 c = search needs
+array-write-numbers : tie.Need-array-write-numbers
+array-write-numbers c = search needs
+
+mul-thresholds : tie.Need-mul-thresholds
+mul-thresholds c = search needs
+
+array-write-thresholds : tie.Need-array-write-thresholds
+array-write-thresholds c = search needs
+
+add-t8 : tie.Need-add-t8
+add-t8 c = search needs
 
 returns-2 : tie.Need-returns-2
 returns-2 c =
-    let at = c .before .before in
-    let args = at .args in
-    let q = args .q in
-    let l : length (q .entries) ≡ 16 = entries-16 q _ (at .good .0) in
-    let left : q .count < 16 = c .before .if1 .left in
-    let h : q .count < length (q .entries) = omega arith in
-    let more : q .count + 1 ≤ 16 = omega arith in (
-      λ room. within (record { entries = set (q .entries) (q .count) (args .e); count = q .count + 1 }) more ∙ rw (within q (omega arith), add-one, take-suc-set),
+    let at = c .before .before .before .before in
+    let e = at .args .e in
+    let q = at .args .q in
+    let l : length (entriesIn q) ≡ 16 = entries-16 q _ (at .good .0) in
+    let left : q .count < 16 = c .before .before .before .if1 .left in
+    let h : q .count < length (entriesIn q) = omega arith in
+    let more : q .count + 1 ≤ 16 = omega arith in
+    let number = c .before .number in
+    let told : entryOf (number .result) (e .threshold) ≡ e = λ i. record { id = number .ensures .0 i; kill = number .ensures .1 i; threshold = e .threshold } in
+    let joined = entry-set (q .numbers) (q .thresholds) (q .count) (number .result) (e .threshold) (as-many q _ (at .good .0)) ∙ ap (set (entriesIn q) (q .count)) told in (
+      λ room. within _ more ∙ ap (take (q .count + 1)) joined ∙ rw (within q (omega arith), add-one, take-suc-set),
       λ full. absurd (omega (arith, full, left, count-is q _ (at .good .0))),
     )
 
 pub join-spec : {M : Type 1} → statement M
-join-spec = tie.close (tie.spec returns mul-entries array-set-from-entries add-t6 returns-2)
+join-spec =
+    tie.close
+    (tie.spec
+    returns
+    number-requires
+    mul-numbers
+    array-write-numbers
+    mul-thresholds
+    array-write-thresholds
+    add-t8
+    returns-2)

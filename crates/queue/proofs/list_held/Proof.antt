@@ -1,22 +1,22 @@
 -- `queue::list_held` lists the id of every entry that is counted. The loop's invariant: the first i are those of the first i
 -- entries. The measure is what is left of the count. Assumes nothing.
 use Prim.Native.Nat.{_-_, _≤_}
-use mathlib.Core.Path.{_≡_, refl, sym, _∙_}
+use mathlib.Core.Path.{_≡_, refl, sym, ap, _∙_}
 use native.Mathlib.Omega.{arith}
 use lib.ListN.{length, take, length-map}
 use Rattle.synth.specs.Channel.{ids as idsOf}
 use Rattle.queue.specs.Queue.{listOf}
-use Rattle.queue.proofs.Queues.{count-is, entries-16, within}
+use Rattle.queue.proofs.Queues.{idsIn, entry-ids, as-many, count-is, numbers-16, within}
 use Rattle.queue.proofs.Turns.{ids-more}
 use borrow.Author.Needs.{needs}
 use Rattle.queue.proofs.list_held.Statement.{statement}
 use Rattle.queue.proofs.list_held.Tie as tie
 
 abbrev Inv-loop : tie.InvT-loop
-Inv-loop count entries ids₀ i₀ ids i = (i ≤ count) × (count ≤ 16) × (length ids ≡ 16) × (length entries ≡ 16) × (take i ids ≡ idsOf (take i entries))
+Inv-loop count numbers ids₀ i₀ ids i = (i ≤ count) × (count ≤ 16) × (length ids ≡ 16) × (length numbers ≡ 16) × (take i ids ≡ idsIn (take i numbers))
 
 abbrev μ-loop : tie.MeasureT-loop
-μ-loop count entries ids₀ i₀ ids i = count - i
+μ-loop count numbers ids₀ i₀ ids i = count - i
 
 list-none-requires : tie.Need-list-none-requires Inv-loop μ-loop
 list-none-requires c κs = search needs
@@ -27,13 +27,16 @@ returns c =
     (λ few. absurd (omega (arith, few, count-is (at .args .q) _ (at .good .0), c .before .if1 .taken)), λ many. c .list-none .ensures)
 
 loop-holds : tie.Need-loop-holds Inv-loop μ-loop
-loop-holds c = (omega arith, c .before .if1 .left, refl, entries-16 (c .before .before .args .q) _ (c .before .before .good .0), refl)
+loop-holds c = (omega arith, c .before .if1 .left, refl, numbers-16 (c .before .before .args .q) _ (c .before .before .good .0), refl)
 
-mul-e : tie.Need-mul-e Inv-loop μ-loop
-mul-e c = search needs
+mul-id-in : tie.Need-mul-id-in Inv-loop μ-loop
+mul-id-in c = search needs
 
-array-copy-out-e : tie.Need-array-copy-out-e Inv-loop μ-loop
-array-copy-out-e c = search needs
+array-read-id-in : tie.Need-array-read-id-in Inv-loop μ-loop
+array-read-id-in c = search needs
+
+id-in-requires : tie.Need-id-in-requires Inv-loop μ-loop
+id-in-requires c κs = search needs
 
 mul-ids : tie.Need-mul-ids Inv-loop μ-loop
 mul-ids c = search needs
@@ -55,7 +58,7 @@ loop-again c =
       inv .1,
       search needs,
       inv .3,
-      ids-more (at .before .before .before .args .q .entries) (at .loop .ids) (at .loop .i) (omega arith) (omega arith) (inv .4),
+      rw (c .id-in .ensures) (ids-more (at .before .before .before .args .q .numbers) (at .loop .ids) (at .loop .i) (omega arith) (omega arith) (inv .4)),
     )
 
 returns-2 : tie.Need-returns-2 Inv-loop μ-loop
@@ -66,7 +69,7 @@ returns-2 c =
     let left = at .before .before .if1 .left in
     let e : at .loop .i ≡ q .count = omega arith in (
       λ few. record {
-        shown = rw (e, ← within q left) at (at .loop .inv .4);
+        shown = (rw e at (at .loop .inv .4)) ∙ sym (ap idsOf (within q left) ∙ entry-ids (q .count) (q .numbers) (q .thresholds) (as-many q _ (start .good .0)));
         counted = sym (length-map (listOf q) _ ∙ count-is q _ (start .good .0));
         few = left;
       },
@@ -82,8 +85,9 @@ list-held-spec =
     list-none-requires
     returns
     loop-holds
-    mul-e
-    array-copy-out-e
+    mul-id-in
+    array-read-id-in
+    id-in-requires
     mul-ids
     array-write-ids
     add-i

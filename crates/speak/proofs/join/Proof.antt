@@ -2,29 +2,32 @@
 use Prim.Native.Nat.{_<_}
 use mathlib.Core.Path.{_≡_, sym, ap, _∙_}
 use mathlib.Core.Bool.{false}
+use native.Mathlib.Omega.{arith}
 use mathlib.Core.List.{List, [], _∷_, _++_}
 use lib.Dec.{leb}
 use lib.ListN.{length}
 use borrow.Author.Tests.{leb-false}
 use Rattle.message.specs.declared.RequestState.the-variants.{Pending, InProgress}
+use Rattle.answer.specs.declared.Kind.{Kind}
+use Rattle.synth.specs.Kinds.{most}
 use Rattle.synth.specs.Channel.{withQueue}
 use Rattle.synth.specs.declared.Entry.{Entry}
-use Rattle.synth.specs.declared.State.the-variants.{Speaking}
-use Rattle.synth.specs.declared.Method.{Method}
+use Rattle.synth.proofs.Channels.{most-16}
 use Rattle.queue.specs.Queue.{listOf, noIds}
 use Rattle.queue.specs.declared.Queue.{Queue}
 use Rattle.queue.proofs.Queues.{none-listed}
 use Rattle.outcomes.specs.Outcomes.{asked}
 use Rattle.outcomes.proofs.Making.{answer-is, makes-failed, makes-success}
-use Rattle.speak.proofs.Speaking.{speak-full, speak-idle, speak-busy}
+use Rattle.speak.proofs.Speaking.{entering, full, becomes-active, waits}
 use borrow.Author.Needs.{needs}
 use Rattle.speak.proofs.join.Statement.{statement}
 use Rattle.speak.proofs.join.Tie as tie
 
 -- the queue with the entry behind it
-with-entry : (q : Queue) {e f : Entry} {l : List Entry} → leb 16 (length (listOf q)) ≡ false → (length (listOf q) < 16 → l ≡ listOf q ++ (e ∷ [])) → e ≡ f
-    → l ≡ listOf q ++ (f ∷ [])
-with-entry q few joined e = joined (leb-false 16 (length (listOf q)) few) ∙ ap (λ (x : Entry). listOf q ++ (x ∷ [])) e
+with-entry : (k : Kind) (q : Queue) {e f : Entry} {l : List Entry} → leb (most k) (length (listOf q)) ≡ false
+    → (length (listOf q) < 16 → l ≡ listOf q ++ (e ∷ [])) → e ≡ f → l ≡ listOf q ++ (f ∷ [])
+with-entry k q few joined e =
+    joined (omega (arith, leb-false (most k) (length (listOf q)) few, most-16 k)) ∙ ap (λ (x : Entry). listOf q ++ (x ∷ [])) e
 
 is-full-requires : tie.Need-is-full-requires
 is-full-requires c κs = search needs
@@ -37,10 +40,11 @@ failed-requires c κs = search needs
 
 returns : tie.Need-returns
 returns c =
-    λ v major minor fs told.
+    λ opened v of major minor fs told.
     let a = c .before .before .before .before .args in
-    makes-failed v (asked major minor Method.Speak (a .e .id) fs) (a .state) (a .q) 407 (c .before .operation-failed .ensures) (c .failed .ensures)
-    (speak-full (withQueue (a .state) (listOf (a .q)) v) major minor (a .e .id) fs (sym (c .before .before .before .is-full .ensures) ∙ c .before .before .if1 .taken))
+    makes-failed v (asked major minor (a .m) (a .e .id) fs) (a .state) (a .q) 407 (c .before .operation-failed .ensures) (c .failed .ensures)
+    (full (withQueue (a .state) (listOf (a .q)) v) major minor (a .m) (a .e .id) fs opened (a .kind) of
+    (sym (c .before .before .before .is-full .ensures) ∙ c .before .before .if1 .taken))
 
 success-requires : tie.Need-success-requires
 success-requires c κs = search needs
@@ -51,38 +55,46 @@ join-requires c κs = search needs
 list-none-requires : tie.Need-list-none-requires
 list-none-requires c κs = search needs
 
-is-idle-requires : tie.Need-is-idle-requires
-is-idle-requires c κs = search needs
-
-in-progress-requires : tie.Need-in-progress-requires
-in-progress-requires c κs = search needs
-
-returns-2 : tie.Need-returns-2
-returns-2 c =
-    λ v major minor fs told.
-    let a = c .before .before .before .before .before .before .before .before .args in
-    let w = withQueue (a .state) (listOf (a .q)) v in
-    let few = sym (c .before .before .before .before .before .before .before .is-full .ensures) ∙ c .before .before .before .before .before .before .if1 .left in
-    let answered = answer-is (c .in-progress .ensures) (c .before .before .before .before .before .success .ensures) in
-    makes-success w (asked major minor Method.Speak (a .e .id) fs) Speaking (c .before .before .before .before .join .result) (told .0) InProgress noIds
-    (λ i. record { answer = answered i; listed = c .before .before .before .list-none .ensures i; state = Speaking; queue = c .before .before .before .before .join .result })
-    none-listed (with-entry (a .q) few (c .before .before .before .before .join .ensures .0) (told .1))
-    (speak-idle w major minor (a .e .id) fs few (sym (c .before .before .is-idle .ensures) ∙ c .before .if2 .taken))
+is-busy-requires : tie.Need-is-busy-requires
+is-busy-requires c κs = search needs
 
 pending-requires : tie.Need-pending-requires
 pending-requires c κs = search needs
 
-returns-3 : tie.Need-returns-3
-returns-3 c =
-    λ v major minor fs told.
+returns-2 : tie.Need-returns-2
+returns-2 c =
+    λ opened v of major minor fs told.
     let a = c .before .before .before .before .before .before .before .before .args in
     let w = withQueue (a .state) (listOf (a .q)) v in
+    let r = asked major minor (a .m) (a .e .id) fs in
     let few = sym (c .before .before .before .before .before .before .before .is-full .ensures) ∙ c .before .before .before .before .before .before .if1 .left in
+    let enters = entering (a .m) opened in
     let answered = answer-is (c .pending .ensures) (c .before .before .before .before .before .success .ensures) in
-    makes-success w (asked major minor Method.Speak (a .e .id) fs) (a .state) (c .before .before .before .before .join .result) (told .0) Pending noIds
+    makes-success w r (a .state) (c .before .before .before .before .join .result) (told .0) Pending noIds
     (λ i. record { answer = answered i; listed = c .before .before .before .list-none .ensures i; state = a .state; queue = c .before .before .before .before .join .result })
-    none-listed (with-entry (a .q) few (c .before .before .before .before .join .ensures .0) (told .1))
-    (speak-busy w major minor (a .e .id) fs few (sym (c .before .before .is-idle .ensures) ∙ c .before .if2 .left))
+    none-listed (with-entry (a .kind) (a .q) few (c .before .before .before .before .join .ensures .0) (told .1))
+    (waits w major minor (a .m) (a .e .id) fs opened (a .kind) of few (enters .0) (enters .1 w r)
+    (sym (c .before .before .is-busy .ensures) ∙ c .before .if2 .taken))
+
+in-progress-requires : tie.Need-in-progress-requires
+in-progress-requires c κs = search needs
+
+active-state-requires : tie.Need-active-state-requires
+active-state-requires c κs = search needs
+
+returns-3 : tie.Need-returns-3
+returns-3 c =
+    λ opened v of major minor fs told.
+    let a = c .before .before .before .before .before .before .before .before .before .args in
+    let w = withQueue (a .state) (listOf (a .q)) v in
+    let r = asked major minor (a .m) (a .e .id) fs in
+    let few = sym (c .before .before .before .before .before .before .before .before .is-full .ensures) ∙ c .before .before .before .before .before .before .before .if1 .left in
+    let answered = answer-is (c .before .in-progress .ensures) (c .before .before .before .before .before .before .success .ensures) in
+    makes-success w r (c .active-state .result) (c .before .before .before .before .before .join .result) (told .0) InProgress noIds
+    (λ i. record { answer = answered i; listed = c .before .before .before .before .list-none .ensures i; state = c .active-state .result; queue = c .before .before .before .before .before .join .result })
+    none-listed (with-entry (a .kind) (a .q) few (c .before .before .before .before .before .join .ensures .0) (told .1))
+    (becomes-active w major minor (a .m) (a .e .id) fs opened (a .kind) of few (c .active-state .result) (c .active-state .ensures opened w r)
+    (sym (c .before .before .before .is-busy .ensures) ∙ c .before .before .if2 .left))
 
 pub join-spec : {M : Type 1} → statement M
 join-spec =
@@ -95,8 +107,9 @@ join-spec =
     success-requires
     join-requires
     list-none-requires
-    is-idle-requires
-    in-progress-requires
-    returns-2
+    is-busy-requires
     pending-requires
+    returns-2
+    in-progress-requires
+    active-state-requires
     returns-3)

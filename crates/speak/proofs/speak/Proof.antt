@@ -1,6 +1,6 @@
 -- `speak::speak` goes by what Kill-On-Barge-In says. Assumes nothing.
 use Prim.Native.Nat.{ℕ}
-use mathlib.Core.Path.{_≡_, sym, ap, subst, _∙_}
+use mathlib.Core.Path.{_≡_, refl, sym, ap, subst, _∙_}
 use mathlib.Core.List.{List}
 use Rattle.message.specs.Message.{Fields}
 use Rattle.message.specs.declared.Known.the-variants.{KillOnBargeIn}
@@ -12,7 +12,7 @@ use Rattle.values.specs.Values.{givenOf, killOf}
 use Rattle.request.specs.Telling.{Tells}
 use Rattle.outcomes.specs.Outcomes.{asked, Makes}
 use Rattle.outcomes.proofs.Making.{makes-failed}
-use Rattle.speak.proofs.Speaking.{kill-yes, kill-no, kill-illegal, speak-illegal, speak-legal, kill-told, ignored-told}
+use Rattle.speak.proofs.Speaking.{kill-given, kill-illegal, speak-illegal, speak-legal, kill-told, speak-entry, ignored-in-speak}
 use borrow.Author.Needs.{needs}
 use Rattle.speak.proofs.speak.Statement.{statement}
 use Rattle.speak.proofs.speak.Tie as tie
@@ -21,18 +21,21 @@ asked-ignored : (c : tie.After-meets) (v : View) (major minor : ℕ) (fs : Field
     Tells (a .f .now) (a .h) fs → c .meets .result ≡ ignoresAny (asked major minor Method.Speak (a .id) fs)
 asked-ignored c v major minor fs told =
     let a = c .before .before .args in
-    c .meets .ensures ∙ ignored-told v major minor (a .id) fs (a .f .now) (a .h) told
+    c .meets .ensures ∙ ignored-in-speak v major minor (a .id) fs (a .f .now) (a .h) told
 
-asked-kill : (c : tie.After-kill-of) (v : View) (major minor : ℕ) (fs : Fields (List ℕ)) → let a = c .before .before .before .before .args in
+asked-value : (c : tie.After-kill-of) (v : View) (major minor : ℕ) (fs : Fields (List ℕ)) → let a = c .before .before .before .before .before .args in
     Tells (a .f .now) (a .h) fs → c .kill-of .result ≡ killOf (acting KillOnBargeIn (asked major minor Method.Speak (a .id) fs))
-asked-kill c v major minor fs told =
-    let a = c .before .before .before .before .args in
+asked-value c v major minor fs told =
+    let a = c .before .before .before .before .before .args in
     c .kill-of .ensures
     ∙ ap (λ g. killOf (givenOf (a .f .now) g)) (c .before .value .ensures)
     ∙ ap killOf (kill-told v major minor (a .id) fs (a .f .now) (a .h) told)
 
 meets-requires : tie.Need-meets-requires
 meets-requires c κs = search needs
+
+content-requires : tie.Need-content-requires
+content-requires c κs = search needs
 
 value-requires : tie.Need-value-requires
 value-requires c κs = search needs
@@ -43,65 +46,49 @@ kill-of-requires c κs = search needs
 enum-told : tie.Need-enum-told
 enum-told c = search needs
 
-speak-content-requires : tie.Need-speak-content-requires
-speak-content-requires c κs = search needs
-
-enum-told-2 : tie.Need-enum-told-2
-enum-told-2 c = search needs
-
-speak-content-requires-2 : tie.Need-speak-content-requires-2
-speak-content-requires-2 c κs = search needs
-
-enum-told-3 : tie.Need-enum-told-3
-enum-told-3 c = search needs
-
 illegal-value-requires : tie.Need-illegal-value-requires
 illegal-value-requires c κs = search needs
 
 failed-requires : tie.Need-failed-requires
 failed-requires c κs = search needs
 
+enum-known-flag : tie.Need-enum-known-flag
+enum-known-flag c = search needs
+
+enter-requires : tie.Need-enter-requires
+enter-requires c κs = search needs
+
 returns : tie.Need-returns
 returns c =
-    λ v major minor fs told.
-    let a = c .before .before .before .before .before .before .before .args in
-    let w = withQueue (a .state) (listOf (a .q)) v in
-    let said = kill-yes (acting KillOnBargeIn (asked major minor Method.Speak (a .id) fs)) (sym (c .before .enum-told .given .1) ∙ asked-kill (c .before .before .before) v major minor fs told) in
-    subst (Makes w (c .speak-content .result)) (sym (speak-legal w major minor (a .id) fs (said .0)))
-    (c .speak-content .ensures v major minor fs (told, asked-ignored (c .before .before .before .before .before) v major minor fs told, rw (said .1)))
-
-returns-2 : tie.Need-returns-2
-returns-2 c =
-    λ v major minor fs told.
-    let a = c .before .before .before .before .before .before .before .args in
-    let w = withQueue (a .state) (listOf (a .q)) v in
-    let said = kill-no (acting KillOnBargeIn (asked major minor Method.Speak (a .id) fs)) (sym (c .before .enum-told2 .given .1) ∙ asked-kill (c .before .before .before) v major minor fs told) in
-    subst (Makes w (c .speak-content2 .result)) (sym (speak-legal w major minor (a .id) fs (said .0)))
-    (c .speak-content2 .ensures v major minor fs (told, asked-ignored (c .before .before .before .before .before) v major minor fs told, rw (said .1)))
-
-returns-3 : tie.Need-returns-3
-returns-3 c =
-    λ v major minor fs told.
-    let a = c .before .before .before .before .before .before .before .before .args in
+    λ v of major minor fs told.
+    let a = c .before .before .before .before .before .before .before .before .before .args in
     let r = asked major minor Method.Speak (a .id) fs in
     makes-failed v r (a .state) (a .q) 404 (c .before .illegal-value .ensures) (c .failed .ensures)
     (speak-illegal (withQueue (a .state) (listOf (a .q)) v) major minor (a .id) fs
-    (kill-illegal (acting KillOnBargeIn r) (sym (c .before .before .enum-told3 .given .1) ∙ asked-kill (c .before .before .before .before) v major minor fs told)))
+    (kill-illegal (acting KillOnBargeIn r) (sym (c .before .before .enum-told .given .1) ∙ asked-value (c .before .before .before .before) v major minor fs told)))
+
+returns-2 : tie.Need-returns-2
+returns-2 c =
+    λ v of major minor fs told.
+    let a = c .before .before .before .before .before .before .before .before .before .args in
+    let w = withQueue (a .state) (listOf (a .q)) v in
+    let said = kill-given _ (acting KillOnBargeIn (asked major minor Method.Speak (a .id) fs)) (sym (c .before .before .flag .given .1) ∙ asked-value (c .before .before .before .before) v major minor fs told) in
+    let judged = c .before .before .before .before .before .before .content .ensures refl major minor (a .id) fs told in
+    subst (Makes w (c .enter .result)) (sym (speak-legal w major minor (a .id) fs (said .0)))
+    (c .enter .ensures refl v of major minor fs (judged, asked-ignored (c .before .before .before .before .before .before .before) v major minor fs told, speak-entry w major minor (a .id) fs _ (said .1)))
 
 pub speak-spec : {M : Type 1} → statement M
 speak-spec =
     tie.close
     (tie.spec
     meets-requires
+    content-requires
     value-requires
     kill-of-requires
     enum-told
-    speak-content-requires
-    enum-told-2
-    speak-content-requires-2
-    enum-told-3
     illegal-value-requires
     failed-requires
+    enum-known-flag
+    enter-requires
     returns
-    returns-2
-    returns-3)
+    returns-2)

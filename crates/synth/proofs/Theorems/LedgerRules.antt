@@ -1,16 +1,17 @@
 -- What one call puts into the ledger, rule by rule, for every input, number and bytes. Assumes nothing.
 use Prim.Native.Nat.{ℕ}
 use mathlib.Core.Path.{_≡_, refl}
-use mathlib.Core.Bool.{Bool, true, false, _&&_, _||_}
+use mathlib.Core.Bool.{_&&_, _||_}
 use mathlib.Core.List.{List, [], _∷_, _++_}
 use lib.Dec.{eqb}
+use lib.Ieee.{Float}
 use lib.ListN.{length}
 use borrow.Author.Tests.{ne-eqb}
 use Rattle.message.specs.Message.{Fields, Head, request, response, event, message, Message}
 use Rattle.message.specs.Reading.{readBytes, messagesIn}
 use Rattle.message.specs.declared.RequestState.{RequestState}
-use Rattle.synth.specs.Request.{methodOf, isSpeak}
-use Rattle.synth.specs.Calls.{Lent, input, cause}
+use Rattle.synth.specs.Request.{methodOf, opens}
+use Rattle.synth.specs.Calls.{Lent, input, report}
 use Rattle.synth.specs.Demand3.{listed, when, isEnding, eventId, collected, ledgerAccepts, ledgerCloses}
 
 -- a call that returns another number than 0 changes neither list
@@ -19,12 +20,12 @@ pub refused-changes-neither : (lent : Lent) (number : ℕ) (written : List ℕ) 
 unfolding ledgerAccepts ledgerCloses
 refused-changes-neither lent number written h = (rw (ne-eqb number 0 h), rw (ne-eqb number 0 h))
 
--- a request that is answered by one response: a SPEAK answered 200 or 201 puts its id at the end of accepted; a STOP or
+-- a request that is answered by one response: a SPEAK or RECOGNIZE answered 200 or 201 puts its id at the end of accepted; a STOP or
 -- BARGE-IN-OCCURRED so answered puts the ids of the answer's list at the end of closed, as written; any other changes neither
 module _ (s : List ℕ) (h : Head) (name : List ℕ) (id : ℕ) (fs : Fields (List ℕ)) (asks : readBytes s ≡ message h (request name id) fs)
     (written : List ℕ) (answered status : ℕ) (state : RequestState) (m : Message) (starts : m .start ≡ response answered status state)
     (wrote : messagesIn (length written) written ≡ m ∷ []) where
-  pub request-accepts : ledgerAccepts (input s) 0 written ≡ when (isSpeak (methodOf name) && (eqb status 200 || eqb status 201)) (id ∷ []) ++ []
+  pub request-accepts : ledgerAccepts (input s) 0 written ≡ when (opens (methodOf name) && (eqb status 200 || eqb status 201)) (id ∷ []) ++ []
   unfolding ledgerAccepts
   request-accepts = rw (wrote, asks, starts)
 
@@ -33,13 +34,14 @@ module _ (s : List ℕ) (h : Head) (name : List ℕ) (id : ℕ) (fs : Fields (Li
   request-closes = rw (wrote, asks, starts)
 
 -- a report puts the id of each event written at the end of closed, and accepts nothing
-pub report-closes : (n : ℕ) (written : List ℕ) → ledgerCloses (cause n) 0 written ≡ collected (λ m. eventId (m .start)) (messagesIn (length written) written)
+pub report-closes : (cause : ℕ) (score : Float) (written : List ℕ)
+    → ledgerCloses (report cause score) 0 written ≡ collected (λ m. eventId (m .start)) (messagesIn (length written) written)
 unfolding ledgerCloses
-report-closes n written = refl
+report-closes cause score written = refl
 
-pub report-accepts : (n : ℕ) (written : List ℕ) → ledgerAccepts (cause n) 0 written ≡ []
+pub report-accepts : (cause : ℕ) (score : Float) (written : List ℕ) → ledgerAccepts (report cause score) 0 written ≡ []
 unfolding ledgerAccepts
-report-accepts n written = none-in (messagesIn (length written) written)
+report-accepts cause score written = none-in (messagesIn (length written) written)
   where
     none-in : (ms : List Message) → collected (λ m. []) ms ≡ []
     none-in [] = refl

@@ -37,7 +37,7 @@ abbrev pub numberOrStatus : List Reply → ℕ
 numberOrStatus [] = 0
 numberOrStatus (r ∷ rs) = elim (r .number) [ zero ↦ statusIn (hearsBytes (r .written)) | suc n ↦ suc n ]
 
-pub at : View → String → ℕ
+unfoldable pub at : View → String → ℕ
 at v text = numberOrStatus (replies v (lends text ∷ []))
 
 pub readings :

@@ -83,7 +83,7 @@ pub table :
     ++ map rowOf
     (replies fresh
     (lends "MRCP/2.0 106 SPEAK 7\r\nChannel-Identifier:7f3a@speechsynth\r\nContent-Type:text/plain\r\nContent-Length:2\r\n\r\nHi"
-    ∷ reports 0  -- the engine's normal end
+    ∷ reports 0 0  -- the engine's normal end
     ∷ []))
     ≡ gives 1 0 0 ""
     ∷ gives 2 0 0 ""

@@ -84,18 +84,18 @@ answered (m ∷ []) state queue = record {
 }
 answered (m ∷ n ∷ ms) state queue = record { status = 0; progress = none; listed = none; state = state; queue = queue }
 
-pub row : Outcome → Row
+unfoldable pub row : Outcome → Row
 unfolding valueOf Rattle.message.specs.Known.knownOf
 row o = answered (o .says) (o .next .state) (o .next .queue)
 
-pub on : View → Request → Row
+unfoldable pub on : View → Request → Row
 on v r = row (judges v r)
 
-pub gives : ℕ → RequestState → Option (List ℕ) → State → List Entry → Row
+unfoldable pub gives : ℕ → RequestState → Option (List ℕ) → State → List Entry → Row
 gives status progress listed state queue =
     record { status = status; progress = some progress; listed = listed; state = state; queue = queue }
 
-pub lists : String → Option (List ℕ)
+unfoldable pub lists : String → Option (List ℕ)
 lists text = some (bytes text)
 
 pub while-idle :
@@ -193,8 +193,8 @@ numberIn (r ∷ rs) = r .number
 pub reported : View → ℕ → Report
 unfolding leaves
 reported v cause =
-    let next : View = leaves v (reports cause ∷ []) in
-    record { number = numberIn (replies v (reports cause ∷ [])); state = next .state; queue = next .queue }
+    let next : View = leaves v (reports cause 0 ∷ []) in
+    record { number = numberIn (replies v (reports cause 0 ∷ [])); state = next .state; queue = next .queue }
 
 pub _leaves_with_ : ℕ → State → List Entry → Report
 _leaves_with_ number state queue = record { number = number; state = state; queue = queue }

@@ -3,7 +3,7 @@
 use mathlib.Core.Path.{ap, _∙_}
 use Rattle.synth.specs.Judgement.{fails}
 use Rattle.values.specs.Values.{typedContent}
-use Rattle.values.proofs.Speech.{without-length, without-type, with-both}
+use Rattle.values.proofs.Openings.{without-length, without-type, with-both}
 use borrow.Author.Needs.{needs}
 use Rattle.values.proofs.content.Statement.{statement}
 use Rattle.values.proofs.content.Tie as tie
@@ -36,20 +36,21 @@ returns : tie.Need-returns
 returns c =
     let a = c .before .before .before .before .args in
     ap fails (c .field-missing .ensures)
-    ∙ without-length (a .f .now) (a .length) (a .media) (a .body) (c .before .enum-told .given .1)
+    ∙ without-length (a .m) (a .f .now) (a .length) (a .media) (a .body) (c .before .enum-told .given .1)
 
 returns-2 : tie.Need-returns-2
 returns-2 c =
     let a = c .before .before .before .before .before .before .args in
     ap fails (c .field-missing2 .ensures)
-    ∙ without-type (a .f .now) (a .length) (a .media) (a .body) _ (c .before .before .before .enum-told2 .given .1)
+    ∙ without-type (a .m) (a .f .now) (a .length) (a .media) (a .body) _
+    (c .before .before .before .enum-told2 .given .1)
     (c .before .enum-told3 .given .1)
 
 returns-3 : tie.Need-returns-3
 returns-3 c =
     let a = c .before .before .before .before .before .before .before .before .args in
-    c .typed-content .ensures ∙ ap (λ t. typedContent t (a .body)) (c .before .part .ensures)
-    ∙ with-both (a .f .now) (a .length) (a .media) (a .body) _ _
+    c .typed-content .ensures ∙ ap (λ t. typedContent (a .m) t (a .body)) (c .before .part .ensures)
+    ∙ with-both (a .m) (a .f .now) (a .length) (a .media) (a .body) _ _
     (c .before .before .before .before .before .enum-told2 .given .1) (c .before .before .before .media .given .1)
 
 pub content-spec : {M : Type 1} → statement M

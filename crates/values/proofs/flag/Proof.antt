@@ -22,10 +22,14 @@ alike-requires-2 : tie.Need-alike-requires-2
 alike-requires-2 c κs = search needs
 
 returns-2 : tie.Need-returns-2
-returns-2 c = rw (sym (c .before .before .before .before .alike .ensures) ∙ c .before .before .before .if1 .left, killOf, sym (c .before .alike2 .ensures) ∙ c .if2 .taken)
+returns-2 c =
+    let b = c .before .before .before in
+    rw (sym (b .before .alike .ensures) ∙ b .if1 .left, killOf, sym (c .before .alike2 .ensures) ∙ c .if2 .taken)
 
 returns-3 : tie.Need-returns-3
-returns-3 c = rw (sym (c .before .before .before .before .alike .ensures) ∙ c .before .before .before .if1 .left, killOf, sym (c .before .alike2 .ensures) ∙ c .if2 .left)
+returns-3 c =
+    let b = c .before .before .before in
+    rw (sym (b .before .alike .ensures) ∙ b .if1 .left, killOf, sym (c .before .alike2 .ensures) ∙ c .if2 .left)
 
 pub flag-spec : {M : Type 1} → statement M
 flag-spec =

@@ -21,7 +21,9 @@ alike-requires-2 : tie.Need-alike-requires-2
 alike-requires-2 c κs = search needs
 
 returns-2 : tie.Need-returns-2
-returns-2 c = rw (sym (c .before .before .before .before .alike .ensures) ∙ c .before .before .before .if1 .left, sym (c .before .alike2 .ensures) ∙ c .if2 .taken)
+returns-2 c =
+    let b = c .before .before .before in
+    rw (sym (b .before .alike .ensures) ∙ b .if1 .left, sym (c .before .alike2 .ensures) ∙ c .if2 .taken)
 
 slice-aggregate-alike-3 : tie.Need-slice-aggregate-alike-3
 slice-aggregate-alike-3 c = search needs
@@ -33,7 +35,8 @@ returns-3 : tie.Need-returns-3
 returns-3 c =
     let a = c .before .before in
     let b = a .before .before .before in
-    rw (sym (b .before .alike .ensures) ∙ b .if1 .left, sym (a .before .alike2 .ensures) ∙ a .if2 .left, c .alike3 .ensures)
+    let first = sym (b .before .alike .ensures) ∙ b .if1 .left in
+    rw (first, sym (a .before .alike2 .ensures) ∙ a .if2 .left, c .alike3 .ensures)
 
 pub is-speech-type-spec : {M : Type 1} → statement M
 is-speech-type-spec =

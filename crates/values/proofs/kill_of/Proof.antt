@@ -25,7 +25,8 @@ returns c = search needs
 returns-2 : tie.Need-returns-2
 returns-2 c =
     let f = c .before .before .before .before .before .before .args .f .now in
-    c .flag .ensures ∙ ap (λ v. killOf (some v)) (c .before .part .ensures) ∙ ap (λ g. killOf (givenOf f g)) (sym (c .before .before .before .g .given .1))
+    c .flag .ensures ∙ ap (λ v. killOf (some v)) (c .before .part .ensures)
+    ∙ ap (λ g. killOf (givenOf f g)) (sym (c .before .before .before .g .given .1))
 
 pub kill-of-spec : {M : Type 1} → statement M
 kill-of-spec =

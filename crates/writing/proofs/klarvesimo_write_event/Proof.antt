@@ -12,8 +12,8 @@ returns c =
     let a = c .before .before .before .args in
     cause-refused (a .name .now) (a .written .now) (a .out .now) (a .id) (a .cause) (search needs)
 
-complete-requires : tie.Need-complete-requires
-complete-requires c κs = search needs
+speak-complete-requires : tie.Need-speak-complete-requires
+speak-complete-requires c κs = search needs
 
 tell-requires : tie.Need-tell-requires
 tell-requires c κs = search needs
@@ -24,11 +24,11 @@ same-length c = search needs
 returns-2 : tie.Need-returns-2
 returns-2 c =
     let a = c .before .before .before .before .before .before .before .before .before .args in
-    let w = c .before .before .before .before .complete in
+    let w = c .before .before .before .before .speak-complete in
     completed (a .name .now) (a .written .now) (a .out .now) (a .id) (a .cause) (search needs)
     _ _ _ (w .ensures .0) (w .ensures .1) (c .tell .ensures)
 
 pub klarvesimo-write-event-spec : {M : Type 1} → statement M
 klarvesimo-write-event-spec =
     tie.close
-    (tie.spec element-write-written returns complete-requires tell-requires same-length returns-2)
+    (tie.spec element-write-written returns speak-complete-requires tell-requires same-length returns-2)
