@@ -74,20 +74,6 @@ module _ (name : List ℕ) (k : ℕ) where
       go Kind.Synthesizer e = synthesizes name (rw e)
       go Kind.Recognizer e = recognizes name (rw e)
 
-  pub speech-tail : same (drop k name) (bytes "@speechsynth") ≡ true → same (drop k name) (resource (kindOf name)) ≡ true
-  speech-tail e = rw (tail-kind Kind.Synthesizer e, e)
-
-  pub other-tail : same (drop k name) (bytes "@speechsynth") ≡ false → same (drop k name) (resource (kindOf name)) ≡ same (drop k name) (bytes "@speechrecog")
-  other-tail e = go (kindOf name) refl
-    where
-      isRecognizer : Kind → Bool
-      isRecognizer Kind.Synthesizer = false
-      isRecognizer Kind.Recognizer = true
-
-      go : (kind : Kind) → kindOf name ≡ kind → same (drop k name) (resource kind) ≡ same (drop k name) (bytes "@speechrecog")
-      go Kind.Recognizer f = refl
-      go Kind.Synthesizer f = e ∙ sym (refuted _ (λ z. false≢true (ap isRecognizer (sym f ∙ tail-kind Kind.Recognizer z))))
-
 zero-at : (n i : ℕ) → getD (replicate {A = ℕ} n 0) i 0 ≡ 0
 zero-at zero i = refl
 zero-at (suc n) zero = refl

@@ -34,15 +34,22 @@ fn word(name: &[u8]) -> usize
     i
 }
 
-// 1 to 32 letters or digits, then `@speechsynth` or `@speechrecog`.
+// How many bytes the end of a name has that tells the kind.
+const RESOURCE: usize = 12;
+
+// 1 to 32 letters or digits, then `@speechsynth` or `@speechrecog`. The end is counted from behind, so that no byte of
+// it is looked at twice.
 pub fn well_named(name: &[u8]) -> bool
     ensures { λ r. ⌜ r ≡ wellNamed (now (name .entry)) ⌝ }
 {
-    let k = word(name);
-    if k < 1 {
+    if name.len() <= RESOURCE {
         return false;
     }
-    if 32 < k {
+    if LONGEST < name.len() {
+        return false;
+    }
+    let k = name.len() - RESOURCE;
+    if word(&name[..k]) != k {
         return false;
     }
     if octets::equal(&name[k..], b"@speechsynth") {
@@ -50,9 +57,6 @@ pub fn well_named(name: &[u8]) -> bool
     }
     octets::equal(&name[k..], b"@speechrecog")
 }
-
-// How many bytes the end of a name has that tells the kind.
-const RESOURCE: usize = 12;
 
 // The kind that the name tells. A synthesizer's is told by its last byte.
 pub fn kind(n: Name) -> answer::Kind

@@ -1,29 +1,41 @@
 -- `channelnames::well_named` takes the tests of a name in turn. Assumes nothing.
-use Prim.Native.Nat.{ℕ}
-use mathlib.Core.Path.{sym, ap, _∙_}
+use Prim.Native.Nat.{ℕ, _+_, _-_, _≤_}
+use mathlib.Core.Path.{_≡_, sym, ap, _∙_}
 use mathlib.Core.List.{List}
-use borrow.Author.Tests.{le-leb, lt-leb}
+use native.Mathlib.Omega.{arith}
+use lib.ListN.{length}
+use lib.Seq.{length-take-le}
 use Rattle.lists.specs.Lists.{same}
 use Rattle.octets.specs.Octets.{bytes}
-use Rattle.synth.specs.Channel.{wellNamed}
+use Rattle.answer.specs.declared.Kind.{Kind}
 use Rattle.channelnames.proofs.Parts.{part-to-end}
-use Rattle.channelnames.proofs.Tails.{speech-tail, other-tail}
+use Rattle.channelnames.proofs.Words.{too-short, too-long, no-word, ends-in, ends-otherwise}
 use borrow.Author.Needs.{needs}
 use Rattle.channelnames.proofs.well_named.Statement.{statement}
 use Rattle.channelnames.proofs.well_named.Tie as tie
 
+returns : tie.Need-returns
+returns c = too-short (c .before .before .args .name .now) (omega (arith, c .if1 .taken))
+
+returns-2 : tie.Need-returns-2
+returns-2 c = too-long (c .before .before .before .args .name .now) (omega (arith, c .if2 .taken))
+
+sub-k : tie.Need-sub-k
+sub-k c = search needs
+
+slice-aggregate-word : tie.Need-slice-aggregate-word
+slice-aggregate-word c =
+    let name = c .before .before .before .before .args .name .now in
+    sym (length-take-le (length name - 12) name (omega arith))
+
 word-requires : tie.Need-word-requires
 word-requires c κs = search needs
 
-returns : tie.Need-returns
-unfolding wellNamed
-returns c = rw (← c .before .word .ensures .0, lt-leb 1 (c .before .word .result) (c .if1 .taken))
-
-returns-2 : tie.Need-returns-2
-unfolding wellNamed
-returns-2 c =
-    let k = c .before .before .word .result in
-    rw (← c .before .before .word .ensures .0, le-leb 1 k (c .before .if1 .left), lt-leb k 32 (c .if2 .taken))
+returns-3 : tie.Need-returns-3
+returns-3 c =
+    let name = c .before .before .before .before .before .before .args .name .now in
+    let place : length name ≡ length name - 12 + 12 = omega (arith, c .before .before .before .before .if1 .left) in
+    no-word name (length name - 12) place (λ e. c .if3 .taken (c .before .word .ensures .0 ∙ e))
 
 sub-equal : tie.Need-sub-equal
 sub-equal c = search needs
@@ -40,15 +52,16 @@ slice-aggregate-equal c = search needs
 equal-requires : tie.Need-equal-requires
 equal-requires c κs = search needs
 
-returns-3 : tie.Need-returns-3
-unfolding wellNamed
-returns-3 c =
-    let at = c .before .before .before .before in
-    let word = at .before .before .word in
-    let k = word .result in
-    let name = at .before .before .before .before .args .name .now in
-    let tail = ap (λ (l : List ℕ). same l (bytes "@speechsynth")) (sym (part-to-end name k)) ∙ sym (c .before .equal .ensures) ∙ c .if3 .taken in
-    rw (← word .ensures .0, le-leb 1 k (at .before .if1 .left), le-leb k 32 (at .if2 .left)) (sym (speech-tail name k tail))
+returns-4 : tie.Need-returns-4
+returns-4 c =
+    let name = c .before .before .before .before .before .before .before .before .before .before .args .name .now in
+    let k = length name - 12 in
+    let place : length name ≡ k + 12 = omega (arith, c .before .before .before .before .before .before .before .before .if1 .left) in
+    let some : 1 ≤ k = omega (arith, c .before .before .before .before .before .before .before .before .if1 .left) in
+    let most : k ≤ 32 = omega (arith, c .before .before .before .before .before .before .before .if2 .left) in
+    let word = sym (c .before .before .before .before .before .word .ensures .0) ∙ c .before .before .before .before .if3 .left in
+    let tail = ap (λ (l : List ℕ). same l (bytes "@speechsynth")) (sym (part-to-end name k)) ∙ sym (c .before .equal .ensures) ∙ c .if4 .taken in
+    ends-in name k place word some most Kind.Synthesizer tail
 
 sub-equal-2 : tie.Need-sub-equal-2
 sub-equal-2 c = search needs
@@ -65,34 +78,37 @@ slice-aggregate-equal-2 c = search needs
 equal-requires-2 : tie.Need-equal-requires-2
 equal-requires-2 c κs = search needs
 
-returns-4 : tie.Need-returns-4
-unfolding wellNamed
-returns-4 c =
-    let left = c .before .before .before in
-    let at = left .before .before .before .before in
-    let word = at .before .before .word in
-    let k = word .result in
-    let name = at .before .before .before .before .args .name .now in
-    let tail = ap (λ (l : List ℕ). same l (bytes "@speechsynth")) (sym (part-to-end name k)) ∙ sym (left .before .equal .ensures) ∙ left .if3 .left in
-    rw (← word .ensures .0, le-leb 1 k (at .before .if1 .left), le-leb k 32 (at .if2 .left))
-    (c .equal2 .ensures ∙ ap (λ (l : List ℕ). same l (bytes "@speechrecog")) (part-to-end name k) ∙ sym (other-tail name k tail))
+returns-5 : tie.Need-returns-5
+returns-5 c =
+    let name = c .before .before .before .before .before .before .before .before .before .before .before .before .before .args .name .now in
+    let k = length name - 12 in
+    let place : length name ≡ k + 12 = omega (arith, c .before .before .before .before .before .before .before .before .before .before .before .if1 .left) in
+    let some : 1 ≤ k = omega (arith, c .before .before .before .before .before .before .before .before .before .before .before .if1 .left) in
+    let most : k ≤ 32 = omega (arith, c .before .before .before .before .before .before .before .before .before .before .if2 .left) in
+    let word = sym (c .before .before .before .before .before .before .before .before .word .ensures .0) ∙ c .before .before .before .before .before .before .before .if3 .left in
+    let other = ap (λ (l : List ℕ). same l (bytes "@speechsynth")) (sym (part-to-end name k)) ∙ sym (c .before .before .before .before .equal .ensures) ∙ c .before .before .before .if4 .left in
+    ends-otherwise name k place word some most (c .equal2 .result) other
+    (c .equal2 .ensures ∙ ap (λ (l : List ℕ). same l (bytes "@speechrecog")) (part-to-end name k))
 
 pub well-named-spec : {M : Type 1} → statement M
 well-named-spec =
     tie.close
     (tie.spec
-    word-requires
     returns
     returns-2
+    sub-k
+    slice-aggregate-word
+    word-requires
+    returns-3
     sub-equal
     part-equal-start
     part-equal-end
     slice-aggregate-equal
     equal-requires
-    returns-3
+    returns-4
     sub-equal-2
     part-equal-start-2
     part-equal-end-2
     slice-aggregate-equal-2
     equal-requires-2
-    returns-4)
+    returns-5)
