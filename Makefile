@@ -96,7 +96,7 @@ tools-install: tools
 
 tools-test: tools-host tools-second tools-arm
 	@tools/need gcc python3
-	@tools/need --install clang pkg-config nm arm-none-eabi-gcc qemu-system-arm
+	@tools/need --install clang pkg-config nm objdump arm-none-eabi-gcc qemu-system-arm
 
 tools-arm:
 	@tools/need --install $(ARM)

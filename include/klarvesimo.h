@@ -36,16 +36,22 @@
  *      thumbv7em-none-eabihf    Cortex-M4F and later, no operating system; likewise, and the floating-point unit is
  *                               switched on before the first call
  *
- *  - memcpy and memset. The archive leaves no other name undefined on 64 bits. On 32 bits also __aeabi_uldivmod, which
- *    libgcc has; on thumbv7em-none-eabihf, for memcpy and memset, their AEABI forms, which newlib has: __aeabi_memcpy,
- *    also with 4 and with 8 at its end, __aeabi_memclr4, __aeabi_memclr8 and __aeabi_memset4;
+ *  - these functions: the archive leaves no other name undefined. libgcc has __aeabi_uldivmod, and newlib the AEABI
+ *    forms of memcpy and memset;
+ *
+ *      x86-64 Linux             memcpy memset
+ *      aarch64-linux-gnu        memcpy memset
+ *      arm-linux-gnueabihf      memcpy memset __aeabi_uldivmod
+ *      thumbv7em-none-eabihf    __aeabi_memcpy __aeabi_memcpy4 __aeabi_memcpy8 __aeabi_memclr4 __aeabi_memclr8
+ *                               __aeabi_memset4 __aeabi_uldivmod
+ *
  *  - a stack that is aligned at each call as the ABI says: to 16 bytes, on 32 bits to 8. C compilers see to it;
  *    assembly, and whoever sets up a thread's stack, must;
  *  - arrays of uint64_t aligned to 8 bytes, as C compilers do. Bytes may begin anywhere: on ARM they are also loaded by
  *    words that are not aligned, so the processor must take that: as a Cortex-M4 does unless CCR.UNALIGN_TRP is set,
  *    and a Cortex-A in normal memory unless SCTLR.A is set;
- *  - at most 4 KB of stack. No call takes more of it, whatever is lent, than 3,473 bytes on x86-64, 3,408 on aarch64,
- *    2,856 on arm, 2,928 on thumbv7em; what the functions named above take for themselves comes on top of that;
+ *  - at most 4 KB of stack. No call takes more of it, whatever is lent, than 3,472 bytes on x86-64, 3,408 on aarch64,
+ *    2,864 on arm, 2,936 on thumbv7em; what the functions named above take for themselves comes on top of that;
  *  - on x86-64 the red zone of that ABI: up to 128 bytes below the stack pointer are in use, so what interrupts a call
  *    and runs on its stack must leave them as they are. There is none on ARM;
  *  - floating-point numbers as C begins with them: rounded to nearest, and subnormal ones taken as they are. So it is

@@ -264,9 +264,7 @@ const ROWS: &[Row] = &[
 #[test]
 fn states_by_table() {
     for Row(before, text, expected, after) in ROWS {
-        let mut channel = recognizer(before);
-        assert_eq!(answer(&mut channel, &request(text)), *expected, "{text}");
-        assert_eq!(shown(&channel), *after, "{before}: {text}");
+        check_turn(recognizer(before), text, expected, after);
     }
 }
 

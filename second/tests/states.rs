@@ -197,13 +197,7 @@ const ROWS: [Row; 41] = [
 #[test]
 fn methods_by_table() {
     for row in &ROWS {
-        let mut channel = given(row.before);
-        let what = format!("{} from {}", row.request, row.before);
-        assert!(channel.is_sound(), "{what}");
-        let input = request(row.request);
-        assert_eq!(answer(&mut channel, &input), row.answer, "{what}");
-        assert_eq!(shown(&channel), row.after, "{what}");
-        assert!(channel.is_sound(), "{what}");
+        check_turn(given(row.before), row.request, row.answer, row.after);
     }
 }
 

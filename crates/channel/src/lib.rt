@@ -82,11 +82,8 @@ pub fn is_sound(last: synth::LastId, c: Channel) -> bool
     }
     let kind = channelnames::kind_by(name);
     let state = c.state;
-    if !queue::is_state_of(kind, state) {
-        return false;
-    }
     let queue = c.queue;
-    if queue::is_busy(state) == queue::is_empty(queue) {
+    if !queue::fits(kind, state, queue::is_empty(queue)) {
         return false;
     }
     if !idle_unseen(last, state) {

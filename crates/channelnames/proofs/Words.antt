@@ -1,7 +1,7 @@
 -- A name that is well formed is a word and a resource, counted from behind. Assumes nothing.
 use Prim.Native.Nat.{ℕ, suc, _+_, _≤_, _<_}
 use mathlib.Core.Path.{_≡_, refl, sym, ap, subst, _∙_}
-use mathlib.Core.Bool.{Bool, true, false, _&&_, _||_, false≢true}
+use mathlib.Core.Bool.{Bool, true, false, _&&_, false≢true}
 use mathlib.Core.List.{List, [], _∷_, _++_}
 use native.Mathlib.Omega.{arith}
 use lib.Dec.{leb}
@@ -11,14 +11,12 @@ use borrow.Author.Tests.{leb-true, le-leb}
 use Rattle.lists.specs.Lists.{all, run, same}
 use Rattle.lists.proofs.Tests.{both, refuted}
 use Rattle.lists.proofs.Scans.{run-to, run-all, run-length, same-so}
-use Rattle.octets.specs.Octets.{bytes, isLetter, isDigit}
+use Rattle.octets.specs.Octets.{bytes}
 use Rattle.answer.specs.declared.Kind.{Kind}
 use Rattle.synth.specs.Kinds.{resource, kindOf}
 use Rattle.synth.specs.Channel.{wellNamed}
+use Rattle.synth.proofs.Names.{isAlnum}
 use Rattle.channelnames.proofs.Tails.{resource-length, tail-kind}
-
-abbrev isAlnum : ℕ → Bool
-isAlnum b = isLetter b || isDigit b
 
 -- the parts of a well-formed name
 record Parted (name : List ℕ) : Type 0 where
@@ -58,8 +56,15 @@ module _ (name : List ℕ) where
     at-run : wellNamed name ≡ true → run isAlnum name ≡ k
     at-run e = let p = parted name e in omega (arith, place, p .size)
 
-    pub no-word : (run isAlnum (take k name) ≡ k → ⊥) → false ≡ wellNamed name
-    no-word h = sym (refuted (wellNamed name) (λ e. h (subst (λ (n : ℕ). run isAlnum (take n name) ≡ n) (at-run e) (run-self (take (run isAlnum name) name) (run-all isAlnum name) ∙ run-length isAlnum name))))
+    pub run-front : run isAlnum name ≡ k → run isAlnum (take k name) ≡ k
+    run-front e = subst (λ (n : ℕ). run isAlnum (take n name) ≡ n) e (run-self (take (run isAlnum name) name) (run-all isAlnum name) ∙ run-length isAlnum name)
+
+    pub no-word : (run isAlnum (take k name) ≡ k → ⊥) → wellNamed name ≡ false
+    no-word h = refuted (wellNamed name) (λ e. h (run-front (at-run e)))
+
+    -- the same, looked for in all of the name
+    pub no-run : (run isAlnum name ≡ k → ⊥) → wellNamed name ≡ false
+    no-run h = refuted (wellNamed name) (λ e. h (at-run e))
 
     module _ (word : run isAlnum (take k name) ≡ k) (some : 1 ≤ k) (most : k ≤ 32) where
       word-all : all isAlnum (take k name) ≡ true

@@ -1,10 +1,10 @@
 // A channel's name, and the kind that it tells: document 01, "Numbers", and document 02, K1.
 ghost use mathlib.Core.Path.{_≡_};
-ghost use mathlib.Core.Bool.{_||_, _&&_};
+ghost use mathlib.Core.Bool.{true, false, _||_, _&&_};
 ghost use mathlib.Core.List.{[], _++_};
-ghost use Prim.Native.Nat.{_-_, _≤_, _<_};
+ghost use Prim.Native.Nat.{_+_, _-_, _≤_, _<_};
 ghost use lib.Dec.{leb};
-ghost use lib.ListN.{length, replicate};
+ghost use lib.ListN.{length, take, replicate};
 ghost use Rattle.lists.specs.Lists.{run, same};
 ghost use Rattle.octets.specs.Octets.{isLetter, isDigit};
 ghost use Rattle.synth.specs.Kinds.{kindOf};
@@ -37,6 +37,22 @@ fn word(name: &[u8]) -> usize
 // How many bytes the end of a name has that tells the kind.
 const RESOURCE: usize = 12;
 
+// Up to here it costs less to look at the letters and digits alone.
+const SHORT: usize = 8;
+
+// Whether letters and digits are all that stands before the end, at `k`. Where they are many they are looked for in the
+// whole name: only there does the compiler test several bytes at a time.
+fn has_word(name: &[u8], k: usize) -> bool
+    requires { ⌜ length (now name) ≡ k + 12 ⌝ }
+    ensures { λ r. ⌜ (r ≡ true → run (λ b. isLetter b || isDigit b) (take k (now (name .entry))) ≡ k)
+        × (r ≡ false → wellNamed (now (name .entry)) ≡ false) ⌝ }
+{
+    if k < SHORT {
+        return word(&name[..k]) == k;
+    }
+    word(name) == k
+}
+
 // 1 to 32 letters or digits, then `@speechsynth` or `@speechrecog`. The end is counted from behind, so that no byte of
 // it is looked at twice.
 pub fn well_named(name: &[u8]) -> bool
@@ -49,7 +65,7 @@ pub fn well_named(name: &[u8]) -> bool
         return false;
     }
     let k = name.len() - RESOURCE;
-    if word(&name[..k]) != k {
+    if !has_word(name, k) {
         return false;
     }
     if octets::equal(&name[k..], b"@speechsynth") {

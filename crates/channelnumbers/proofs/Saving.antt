@@ -19,7 +19,7 @@ use Rattle.synth.specs.declared.LastId.{LastId}
 use Rattle.synth.proofs.Channels.{most-16}
 use Rattle.channelnames.specs.Names.{nameOf, kindBy}
 use Rattle.channelnames.proofs.Names.{size-is, within as name-within}
-use Rattle.queue.specs.Queue.{idIn, killIn, entryOf, entriesOf, listOf}
+use Rattle.queue.specs.Queue.{idIn, killIn, entryIn, entriesOf, listOf}
 use Rattle.queue.proofs.Queues.{entriesIn, as-many, count-is, within as queue-within}
 use Rattle.channel.specs.Channel.{view}
 use Rattle.channel.specs.declared.Channel.{Channel}
@@ -33,7 +33,7 @@ number-at (n ∷ numbers) zero h = refl
 number-at (n ∷ numbers) (suc i) h = number-at numbers i (omega arith)
 
 -- an entry's number is that which it is told by
-entry-stored : (n m : ℕ) → entryNumber (entryOf n m) ≡ stored n
+entry-stored : (n m : ℕ) → entryNumber (entryIn n m) ≡ stored n
 entry-stored n m = go (killIn n) refl
   where
     go : (b : Bool) → killIn n ≡ b → idIn n * 2 + cond b 1 0 ≡ stored n

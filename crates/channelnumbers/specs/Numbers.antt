@@ -1,5 +1,5 @@
 -- A channel as 64 numbers: state, last id seen, count, size, the queue from 4 on, the name from 20 on.
-use Prim.Native.Nat.{ℕ, zero, suc, _+_, _-_, _*_, _/_, _%_}
+use Prim.Native.Nat.{ℕ, zero, suc, _+_, _-_, _*_, _/_}
 use mathlib.Core.Bool.{Bool, true, false, cond}
 use mathlib.Core.Option.{Option, none, some}
 use mathlib.Core.List.{List, [], _∷_, _++_, map}
@@ -15,6 +15,7 @@ use Rattle.synth.specs.declared.Entry.{Entry}
 use Rattle.synth.specs.declared.LastId.{LastId}
 use Rattle.synth.specs.declared.LastId.the-variants.{NoneSeen, Seen}
 use Rattle.channelnames.specs.Names.{kindBy}
+use Rattle.queue.specs.Queue.{killIn}
 
 -- an outstanding request: its id doubled, and one more where barge-in kills it
 abbrev pub entryNumber : Entry → ℕ
@@ -32,15 +33,12 @@ abbrev pub queueNumbers : Kind → List Entry → List ℕ
 queueNumbers Kind.Synthesizer queue = map entryNumber queue
 queueNumbers Kind.Recognizer queue = padded 8 (map entryNumber queue) ++ thresholds queue
 
--- the kind of a sound channel: any other has no kind that counts, and the last byte of its name is looked at alone
-abbrev pub kind : View → Kind
-kind v = kindBy (v .name)
-
--- the numbers of a channel; the last id seen is told by the first one above it
+-- the numbers of a channel; the last id seen is told by the first one above it. The kind is that of a sound one: any
+-- other has none that counts, and the last byte of its name is looked at alone
 unfoldable pub numbersOf : View → List ℕ
 numbersOf v =
     stateNumber (v .state) ∷ firstAbove (v .last) ∷ length (v .queue) ∷ length (v .name)
-    ∷ padded 16 (queueNumbers (kind v) (v .queue)) ++ padded 44 (v .name)
+    ∷ padded 16 (queueNumbers (kindBy (v .name)) (v .queue)) ++ padded 44 (v .name)
 
 abbrev pub stateAt : ℕ → Option State
 stateAt zero = some Idle
@@ -54,8 +52,9 @@ abbrev pub lastAt : ℕ → LastId
 lastAt zero = NoneSeen
 lastAt (suc id) = Seen id
 
+-- unlike `idIn`, not cut to 32 bits: a number outside its range is no sound channel's
 abbrev pub entryAt : ℕ → Entry
-entryAt n = record { id = n / 2; kill = eqb (n % 2) 1; threshold = 0 }
+entryAt n = record { id = n / 2; kill = killIn n; threshold = 0 }
 
 -- entries with other thresholds
 abbrev pub leveled : List Entry → List ℕ → List Entry
@@ -79,7 +78,7 @@ isThreshold Kind.Recognizer n = ltb n 4294967296
 
 -- the numbers can tell every threshold of the channel
 abbrev pub thresholdsFit : View → Bool
-thresholdsFit v = all (isThreshold (kind v)) (thresholds (v .queue))
+thresholdsFit v = all (isThreshold (kindBy (v .name))) (thresholds (v .queue))
 
 abbrev pub whereFit : View → Option View
 whereFit v = elim (thresholdsFit v) [ true ↦ some v | false ↦ none ]

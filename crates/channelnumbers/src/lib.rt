@@ -4,9 +4,10 @@ ghost use mathlib.Core.List.{map};
 ghost use Prim.Native.Nat.{_≤_, _<_};
 ghost use lib.ListN.{length, replicate};
 ghost use Rattle.synth.specs.Kinds.{most, stateNumber};
+ghost use Rattle.channelnames.specs.Names.{kindBy};
 ghost use Rattle.channel.specs.Channel.{view};
 ghost use Rattle.channelnumbers.specs.Steps.{Stored, stored, thresholdCount};
-ghost use Rattle.channelnumbers.specs.Numbers.{kind, numbersOf};
+ghost use Rattle.channelnumbers.specs.Numbers.{numbersOf};
 
 // Where the queue's numbers begin, a recognizer's thresholds, and the name's bytes.
 pub const QUEUE_AT: usize = 4;
@@ -82,7 +83,7 @@ fn save_name(n: channelnames::Name, ws: &mut [u64; 64])
 // The numbers of the channel: zeros past its count and its size. One with more than the arrays hold has none; a
 // recognizer with more than eight, which is not sound, has some.
 pub fn save(last: synth::LastId, c: channel::Channel, ws: &mut [u64; 64])
-    ensures { λ _. ⌜ (length (view last c .name) ≤ 44 → length (view last c .queue) ≤ most (kind (view last c))
+    ensures { λ _. ⌜ (length (view last c .name) ≤ 44 → length (view last c .queue) ≤ most (kindBy (view last c .name))
         → now (ws .exit) ≡ numbersOf (view last c)) ⌝ }
     ensures { λ _. ⌜ (44 < length (view last c .name) → now (ws .exit) ≡ replicate 64 0) ⌝ }
     ensures { λ _. ⌜ (16 < length (view last c .queue) → now (ws .exit) ≡ replicate 64 0) ⌝ }

@@ -18,8 +18,7 @@ use Rattle.synth.specs.declared.Entry.{Entry}
 use Rattle.synth.specs.declared.State.{State}
 use Rattle.synth.specs.declared.State.the-variants.{Idle, Speaking, Paused, Recognizing, Recognized}
 use Rattle.synth.proofs.Channels.{sound-facts}
-use Rattle.queue.specs.Queue.{listOf, first, marked, Ends}
-use Rattle.queue.specs.declared.Ended.{Ended}
+use Rattle.queue.specs.Queue.{first, marked}
 use Rattle.queue.proofs.Masks.{all-end, none-remains, active-ends, others-remain}
 use Rattle.engine.specs.Endings.{endsMarked}
 
@@ -111,9 +110,3 @@ module _ (v : View) (e : Entry) (queue : List Entry) (q : v .queue ≡ e ∷ que
 
   pub other-ends : isMatch cause ≡ false → endsMarked 65535 v cause ≡ recognized e queue v cause
   other-ends h = ap₂ leaving (all-end (v .queue) few ∙ q) (none-remains (v .queue) few) ∙ rw (h, recognized)
-
--- the others go on
-pub next-active : (queue : List Entry) (e : Entry) (rest : List Entry) (r : Ended) → queue ≡ e ∷ rest → length queue ≤ 16
-    → (length queue ≤ 16 → Ends 1 queue r) → listOf (r .queue) ≡ rest
-next-active queue e rest r q few h =
-    h few .left ∙ ap (λ (l : List Entry). marked false 1 0 l) q ∙ others-remain rest e (rw q at few)

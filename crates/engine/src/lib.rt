@@ -27,16 +27,14 @@ fn end_speech(
         → Leaves last c (delivered (view last c) 0 (length (now (out .entry)))
         (endsOne Kind.Synthesizer Idle Speaking e queue (view last c) cause)) (now (out .entry)) r (now (out .exit))) ⌝ }
 {
-    let q = c.queue;
-    let active = queue::active(q);
+    let active = queue::active(c.queue);
     let name = c.name;
     let bytes = name.bytes;
     let w = output::speak_complete(out, &bytes[..name.size], active.id, cause);
     match w {
         output::Written::TooLong => calls::refused(last, c, 7, 0),
         output::Written::Count(sent) => {
-            let ended = queue::end(q, queue::ACTIVE);
-            let rest = ended.queue;
+            let rest = queue::without_active(c.queue);
             let state = queue::while_any(synth::State::Idle, synth::State::Speaking, rest);
             let next = channel::with_queue(c, state, rest);
             calls::Handled {

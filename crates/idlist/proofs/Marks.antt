@@ -1,18 +1,16 @@
 -- Bits for the places of ids: what two lists name together, and one place more. As a number in base two the bits are `marks`.
 -- Assumes nothing.
-use Prim.Native.Nat.{ℕ, suc, _+_, _*_, _%_, _^_, _<_}
-use native.Mathlib.Nat.{pow-suc, mul-assoc, mul-comm, mul-one, zero-add, add-zero, add-assoc, add-suc, suc-add, add-mul}
-use native.Mathlib.Numerals.{add-one}
+use Prim.Native.Nat.{ℕ, suc, _+_, _*_, _^_, _≤_, _<_}
+use native.Mathlib.Nat.{pow-suc, mul-assoc, mul-comm, mul-one, add-mul}
 use native.Mathlib.Omega.{arith}
 use mathlib.Core.Path.{_≡_, refl, ap, _∙_}
 use mathlib.Core.Bool.{Bool, true, false, _||_, cond}
 use mathlib.Core.List.{List, [], _∷_, _++_}
-use lib.Bits.{bitOr, or-block, or-shifted-r}
-use lib.Dec.{lit<}
-use lib.ListN.{length, take, getD}
-use lib.Pow.{shl-exact}
-use lib.Seq.{take-suc, length-take-le}
-use borrow.Author.Tests.{eq-eqb, ne-eqb}
+use lib.Bits.{bitOr, or-block}
+use lib.Dec.{eqb, lit<}
+use lib.ListN.{length, drop, getD, length-drop}
+use lib.Pow.{pow-mono}
+use lib.Seq.{drop-cons}
 use Rattle.lists.specs.Lists.{elem}
 use Rattle.lists.proofs.Membership.{elem-append}
 use Rattle.idlist.specs.Named.{bitWhere, bitsFrom}
@@ -68,28 +66,20 @@ or-marks l m (id ∷ ids) =
 pub or-bits : (l m ids : List ℕ) → bitOr (bitsFrom 0 l ids) (bitsFrom 0 m ids) ≡ bitsFrom 0 (l ++ m) ids
 or-bits l m ids = rw (from-zero l ids, from-zero m ids, from-zero (l ++ m) ids) (or-marks l m ids)
 
--- ---- one place more
+-- ---- one place more, from behind
 
-bits-more : (j : ℕ) (l xs : List ℕ) (y : ℕ) → bitsFrom j l (xs ++ y ∷ []) ≡ bitsFrom j l xs + bitWhere (elem y l) (j + length xs)
-bits-more j l [] y = rw (add-zero, add-zero, zero-add)
-bits-more j l (x ∷ xs) y = rw (bits-more (suc j) l xs y, suc-add, add-suc, add-assoc)
+or-false : (b : Bool) → (b || false) ≡ b
+or-false true = refl
+or-false false = refl
 
 module _ (id : ℕ) (ids : List ℕ) (j : ℕ) (h : j < length ids) where
-  next-place : bitsFrom 0 (id ∷ []) (take (j + 1) ids)
-      ≡ bitsFrom 0 (id ∷ []) (take j ids) + bitWhere (elem (getD ids j 0) (id ∷ [])) j
+  pub next-place : bitsFrom 0 (id ∷ []) (drop j ids) ≡ bitsFrom 0 (id ∷ []) (drop (suc j) ids) * 2 + cond (eqb (getD ids j 0) id) 1 0
   next-place =
-      ap (bitsFrom 0 (id ∷ [])) (ap (λ k. take k ids) (add-one j) ∙ take-suc ids j 0 h)
-      ∙ bits-more 0 (id ∷ []) (take j ids) (getD ids j 0)
-      ∙ ap (λ k. bitsFrom 0 (id ∷ []) (take j ids) + bitWhere (elem (getD ids j 0) (id ∷ [])) k)
-      (zero-add (length (take j ids)) ∙ length-take-le j ids (omega arith))
+      ap (bitsFrom 0 (id ∷ [])) (drop-cons ids j 0 h) ∙ from-zero (id ∷ []) (getD ids j 0 ∷ drop (suc j) ids)
+      ∙ rw (← from-zero (id ∷ []) (drop (suc j) ids), or-false (eqb (getD ids j 0) id))
 
-  pub other-place : (getD ids j 0 ≡ id → ⊥) → bitsFrom 0 (id ∷ []) (take j ids) ≡ bitsFrom 0 (id ∷ []) (take (j + 1) ids)
-  other-place d = rw (next-place, ne-eqb (getD ids j 0) id d, add-zero)
-
-  pub its-place : j < 64 → getD ids j 0 ≡ id
-      → bitOr (bitsFrom 0 (id ∷ []) (take j ids)) (1 * 2 ^ j % 2 ^ 64) ≡ bitsFrom 0 (id ∷ []) (take (j + 1) ids)
-  its-place w e =
-      let b : ℕ = bitsFrom 0 (id ∷ []) (take j ids) in
-      let at : length (take j ids) ≡ j = length-take-le j ids (omega arith) in
-      let low : b < 2 ^ j = rw (from-zero (id ∷ []) (take j ids)) (rw at at (marks-below (id ∷ []) (take j ids))) in
-      rw (next-place, eq-eqb (getD ids j 0) id e, shl-exact 1 j 64 (lit< tt) (omega arith), or-shifted-r 1 j b low) (omega arith)
+-- no bit of those behind place j is lost
+pub room-left : (l ids : List ℕ) (j : ℕ) → length ids ≤ 64 → 1 ≤ j → bitsFrom 0 l (drop j ids) < 2 ^ 63
+room-left l ids j most some =
+    let few : length (drop j ids) ≤ 63 = rw (length-drop j ids) (omega arith) in
+    rw (from-zero l (drop j ids)) (omega (arith, marks-below l (drop j ids), pow-mono few))

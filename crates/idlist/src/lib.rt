@@ -1,6 +1,8 @@
 // A list of request-ids as a field's value has it: document 01, judgement 6 and STOP.
 ghost use mathlib.Core.Path.{_≡_};
+ghost use mathlib.Core.Bool.{cond};
 ghost use mathlib.Core.List.{[], _∷_};
+ghost use Prim.Native.Nat.{min};
 ghost use lib.ListN.{take};
 ghost use Rattle.idlist.specs.Named.{namedIn, bitsFrom, inRange};
 
@@ -20,20 +22,28 @@ fn in_range(value: u64, count: usize) -> bool
     value <= 4294967295
 }
 
-// Where `id` stands among the first 64 of `ids`, a bit for each place.
-fn places(ids: &[u32], id: u64) -> u64
+fn at_most_64(n: usize) -> usize
+    ensures { λ r. ⌜ r ≡ min n 64 ⌝ }
+{
+    if n < 64 { n } else { 64 }
+}
+
+fn bit_where(test: bool) -> u64
+    ensures { λ r. ⌜ r ≡ cond test 1 0 ⌝ }
+{
+    if test { 1 } else { 0 }
+}
+
+// Where `id` stands among the first 64 of `ids`, a bit for each place, the last one first: so none has to be moved to its
+// place.
+fn places(ids: &[u32], id: u32) -> u64
     ensures { λ r. ⌜ r ≡ bitsFrom 0 (id ∷ []) (take 64 (now (ids .entry))) ⌝ }
 {
     let mut bits: u64 = 0;
-    let mut j = 0;
-    while j < 64 {
-        if ids.len() <= j {
-            return bits;
-        }
-        if ids[j] as u64 == id {
-            bits = bits | (1 << j);
-        }
-        j += 1;
+    let mut j = at_most_64(ids.len());
+    while 0 < j {
+        j -= 1;
+        bits = bits * 2 + bit_where(ids[j] == id);
     }
     bits
 }
@@ -53,7 +63,7 @@ pub fn named(v: &[u8], ids: &[u32]) -> Which
             if !in_range(value, count) {
                 return Which::Illegal;
             }
-            bits = bits | places(ids, value);
+            bits = bits | places(ids, value as u32);
             value = 0;
             count = 0;
             continue;
@@ -70,5 +80,5 @@ pub fn named(v: &[u8], ids: &[u32]) -> Which
     if !in_range(value, count) {
         return Which::Illegal;
     }
-    Which::Those(bits | places(ids, value))
+    Which::Those(bits | places(ids, value as u32))
 }

@@ -14,13 +14,14 @@ use Rattle.synth.specs.Calls as C
 use Rattle.synth.specs.Calls.{Lent, Call, Reply, call, openChannel}
 use Rattle.synth.specs.declared.LastId.the-variants.{NoneSeen}
 use Rattle.synth.proofs.Theorems.Soundness.{call-sound}
+use Rattle.channelnames.specs.Names.{kindBy}
 use Rattle.channelnames.proofs.Fits.{name-fits}
 use Rattle.channel.specs.Channel.{view, opened}
 use Rattle.channel.specs.declared.Opened.{Opened}
 use Rattle.calls.specs.Promise.{Left, leftIn, Promise}
 use Rattle.calls.specs.declared.Handled.{Handled}
 use Rattle.calls.proofs.Leaving.{name-short, unsound-refused}
-use Rattle.channelnumbers.specs.Numbers.{kind, numbersOf, viewOf, isSound}
+use Rattle.channelnumbers.specs.Numbers.{numbersOf, viewOf, isSound}
 use Rattle.channelnumbers.proofs.Theorems.LoadSaved.{sound-few}
 use Rattle.loading.specs.Loading.{Loads}
 use Rattle.loading.specs.declared.Loaded.{Loaded}
@@ -28,18 +29,18 @@ use Rattle.klarvesimo.specs.Face.{openFace, CallFace, keeping, turnFace,
 
 -- an opening
 pub opens : (name : List ℕ) (o : Opened) (saved : List ℕ) → opened o ≡ openChannel name
-    → (length (view NoneSeen (o .channel) .name) ≤ 44 → length (view NoneSeen (o .channel) .queue) ≤ most (kind (view NoneSeen (o .channel)))
+    → (length (view NoneSeen (o .channel) .name) ≤ 44 → length (view NoneSeen (o .channel) .queue) ≤ most (kindBy (view NoneSeen (o .channel) .name))
     → saved ≡ numbersOf (view NoneSeen (o .channel))) → record { number = o .number; channel = saved } ≡ openFace name
 unfolding openFace
 opens name o saved e h =
     let v : view NoneSeen (o .channel) ≡ openChannel name .channel = ap (λ (x : C.Opened). x .channel) e in
     let fits = opened-fits name in
-    let same = h (subst (λ (x : View). length (x .name) ≤ 44) (sym v) (fits .0)) (subst (λ (x : View). length (x .queue) ≤ most (kind x)) (sym v) (fits .1)) in
+    let same = h (subst (λ (x : View). length (x .name) ≤ 44) (sym v) (fits .0)) (subst (λ (x : View). length (x .queue) ≤ most (kindBy (x .name))) (sym v) (fits .1)) in
     (λ i. record { number = e i .number; channel = (same ∙ ap numbersOf v) i })
   where
-    opened-fits : (name : List ℕ) → (length (openChannel name .channel .name) ≤ 44) × (length (openChannel name .channel .queue) ≤ most (kind (openChannel name .channel)))
+    opened-fits : (name : List ℕ) → (length (openChannel name .channel .name) ≤ 44) × (length (openChannel name .channel .queue) ≤ most (kindBy (openChannel name .channel .name)))
     opened-fits name = unfold openChannel in
-        choose (λ (o : C.Opened). (length (o .channel .name) ≤ 44) × (length (o .channel .queue) ≤ most (kind (o .channel)))) (wellNamed name)
+        choose (λ (o : C.Opened). (length (o .channel .name) ≤ 44) × (length (o .channel .queue) ≤ most (kindBy (o .channel .name)))) (wellNamed name)
         (λ t. (name-fits name t, omega arith)) (λ t. (omega arith, omega arith))
 
 module _ (ws out : List ℕ) (lent : Lent) where
@@ -99,7 +100,7 @@ module _ (ws out : List ℕ) (lent : Lent) where
     stays-sound : r .number ≡ 0 → sound next ≡ true
     stays-sound z = ap (λ (l : Left). sound (l .channel)) (p .same) ∙ call-sound v made (was-sound z)
 
-    answered : r .number ≡ 0 → {saved : List ℕ} → (length (next .name) ≤ 44 → length (next .queue) ≤ most (kind next) → saved ≡ numbersOf next)
+    answered : r .number ≡ 0 → {saved : List ℕ} → (length (next .name) ≤ 44 → length (next .queue) ≤ most (kindBy (next .name)) → saved ≡ numbersOf next)
         → record { number = 0; channel = saved; consumed = r .consumed; written = r .written; out = after } ≡ callFace ws lent out
     answered z {saved} h =
         let s = stays-sound z in
@@ -116,7 +117,7 @@ module _ (ws out counts : List ℕ) (lent : Lent) (l : Loaded) (is : Loads ws l)
   report-refused h = ap (reported counts) (refused ws out lent l is r after p h)
 
   module _ (z : r .number ≡ 0) {saved : List ℕ}
-      (h : length (view (r .last) (r .channel) .name) ≤ 44 → length (view (r .last) (r .channel) .queue) ≤ most (kind (view (r .last) (r .channel)))
+      (h : length (view (r .last) (r .channel) .name) ≤ 44 → length (view (r .last) (r .channel) .queue) ≤ most (kindBy (view (r .last) (r .channel) .name))
       → saved ≡ numbersOf (view (r .last) (r .channel))) where
     pub handle-answered : record { number = 0; channel = saved; counts = set (set counts 0 (r .consumed)) 1 (r .written); out = after } ≡ counted counts (callFace ws lent out)
     handle-answered = ap (counted counts) (answered ws out lent l is r after p z h)

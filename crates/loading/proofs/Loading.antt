@@ -26,7 +26,7 @@ use Rattle.synth.specs.declared.Entry.{Entry}
 use Rattle.synth.specs.declared.LastId.{LastId}
 use Rattle.synth.proofs.Channels.{Small, small-by, most-16, sound-facts, held-small}
 use Rattle.synth.proofs.Names as S
-use Rattle.queue.specs.Queue.{entryOf, entriesOf, listOf}
+use Rattle.queue.specs.Queue.{killIn, entryIn, entriesOf, listOf}
 use Rattle.queue.proofs.Queues.{entries-long, within as within-queue}
 use Rattle.channelnames.specs.Names.{nameOf, kindBy}
 use Rattle.channelnames.proofs.Fits.{name-fits}
@@ -226,14 +226,14 @@ take-entries : (n : ℕ) (numbers levels : List ℕ) → take n (entriesOf numbe
 take-entries zero numbers levels = refl
 take-entries (suc n) [] levels = refl
 take-entries (suc n) (h ∷ numbers) [] = refl
-take-entries (suc n) (h ∷ numbers) (m ∷ levels) = ap (λ (l : List Entry). entryOf h m ∷ l) (take-entries n numbers levels)
+take-entries (suc n) (h ∷ numbers) (m ∷ levels) = ap (λ (l : List Entry). entryIn h m ∷ l) (take-entries n numbers levels)
 
 -- the number of an entry tells it, with no threshold and with its own
-entry-told : (n m : ℕ) → isEntry n ≡ true → entryOf n m ≡ record { id = n / 2; kill = eqb (n % 2) 1; threshold = m }
+entry-told : (n m : ℕ) → isEntry n ≡ true → entryIn n m ≡ record { id = n / 2; kill = killIn n; threshold = m }
 entry-told n m t =
     let small : n < 8589934592 = ltb-true n 8589934592 t in
     let id : n / 2 % 4294967296 ≡ n / 2 = omega (arith, small) in
-    λ i. record { id = id i; kill = eqb (n % 2) 1; threshold = m }
+    λ i. record { id = id i; kill = killIn n; threshold = m }
 
 bare-told : (l : List ℕ) (n : ℕ) → all isEntry l ≡ true → length l ≤ n → entriesOf l (take (length l) (replicate n 0)) ≡ map entryAt l
 bare-told [] n t h = refl

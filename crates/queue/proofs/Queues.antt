@@ -13,7 +13,7 @@ use Rattle.synth.specs.Channel.{ids}
 use Rattle.synth.specs.States.{whileAny, active}
 use Rattle.synth.specs.declared.Entry.{Entry}
 use Rattle.synth.specs.declared.State.{State}
-use Rattle.queue.specs.Queue.{noEntry, idIn, entryOf, entriesOf, listOf, emptyQueue, first, Lists, noIds}
+use Rattle.queue.specs.Queue.{noEntry, idIn, entryIn, entriesOf, listOf, emptyQueue, first, Lists, noIds}
 use Rattle.queue.specs.declared.Queue.{Queue}
 use Rattle.queue.specs.declared.Ids.{Ids}
 use Rattle.queue.proofs.Queue.{the-row}
@@ -33,7 +33,7 @@ entries-long (h ∷ numbers) [] e = absurd (let z : 0 ≡ suc (length numbers) =
 entries-long (h ∷ numbers) (n ∷ levels) e = ap suc (entries-long numbers levels (omega (arith, e)))
 
 pub entry-at : (numbers : List ℕ) (levels : List ℕ) (i : ℕ) → length levels ≡ length numbers
-    → getD (entriesOf numbers levels) i noEntry ≡ entryOf (getD numbers i 0) (getD levels i 0)
+    → getD (entriesOf numbers levels) i noEntry ≡ entryIn (getD numbers i 0) (getD levels i 0)
 entry-at [] [] i e = refl
 entry-at [] (n ∷ levels) i e = absurd (let z : suc (length levels) ≡ 0 = e in omega arith)
 entry-at (h ∷ numbers) [] i e = absurd (let z : 0 ≡ suc (length numbers) = e in omega arith)
@@ -41,11 +41,11 @@ entry-at (h ∷ numbers) (n ∷ levels) zero e = refl
 entry-at (h ∷ numbers) (n ∷ levels) (suc i) e = entry-at numbers levels i (omega (arith, e))
 
 pub entry-set : (numbers : List ℕ) (levels : List ℕ) (i : ℕ) (h n : ℕ) → length levels ≡ length numbers
-    → entriesOf (set numbers i h) (set levels i n) ≡ set (entriesOf numbers levels) i (entryOf h n)
+    → entriesOf (set numbers i h) (set levels i n) ≡ set (entriesOf numbers levels) i (entryIn h n)
 entry-set [] levels i h n e = refl
 entry-set (x ∷ numbers) [] i h n e = absurd (let z : 0 ≡ suc (length numbers) = e in omega arith)
 entry-set (x ∷ numbers) (m ∷ levels) zero h n e = refl
-entry-set (x ∷ numbers) (m ∷ levels) (suc i) h n e = ap (λ (l : List Entry). entryOf x m ∷ l) (entry-set numbers levels i h n (omega (arith, e)))
+entry-set (x ∷ numbers) (m ∷ levels) (suc i) h n e = ap (λ (l : List Entry). entryIn x m ∷ l) (entry-set numbers levels i h n (omega (arith, e)))
 
 abbrev pub idsIn : List ℕ → List ℕ
 idsIn numbers = map idIn numbers
@@ -95,12 +95,12 @@ module _ (q : Queue) where
 
   -- the first entry, whatever the count says of the others
   pub active-is : length (q .numbers) ≡ 16 → length (q .thresholds) ≡ 16 → (q .count ≡ 0 → ⊥)
-      → entryOf (getD (q .numbers) 0 0) (getD (q .thresholds) 0 0) ≡ first (listOf q)
+      → entryIn (getD (q .numbers) 0 0) (getD (q .thresholds) 0 0) ≡ first (listOf q)
   unfolding listOf
   active-is l k h = go (q .numbers) (q .thresholds) (q .count) _ (omega arith) (omega arith) (λ z. h z)
     where
       go : (numbers : List ℕ) (levels : List ℕ) (n : ℕ) (rest : List Entry) → 1 ≤ length numbers → 1 ≤ length levels → (n ≡ 0 → ⊥)
-          → entryOf (getD numbers 0 0) (getD levels 0 0) ≡ first (take n (entriesOf numbers levels) ++ rest)
+          → entryIn (getD numbers 0 0) (getD levels 0 0) ≡ first (take n (entriesOf numbers levels) ++ rest)
       go [] levels n rest k m h = absurd (let z : 1 ≤ 0 = k in omega arith)
       go (x ∷ numbers) [] n rest k m h = absurd (let z : 1 ≤ 0 = m in omega arith)
       go (x ∷ numbers) (y ∷ levels) zero rest k m h = absurd (h refl)

@@ -1,12 +1,15 @@
 -- The queue that the code keeps, as document 01 has it; which entries a mask marks; which ids are listed.
 use Prim.Native.Nat.{ℕ, suc, _-_, _/_, _%_, _≤_}
 use mathlib.Core.Path.{_≡_}
-use mathlib.Core.Bool.{Bool, true, false, Bool·beq}
+use mathlib.Core.Bool.{Bool, true, false, _&&_, not, Bool·beq}
 use mathlib.Core.List.{List, [], _∷_, _++_}
 use lib.Dec.{eqb}
 use lib.ListN.{length, take, replicate}
 use Rattle.lists.specs.Lists.{put, bit}
-use Rattle.synth.specs.Channel.{ids}
+use Rattle.answer.specs.declared.Kind.{Kind}
+use Rattle.synth.specs.Kinds.{isStateOf}
+use Rattle.synth.specs.Channel.{isBusy, ids}
+use Rattle.synth.specs.declared.State.{State}
 use Rattle.synth.specs.declared.Entry.{Entry}
 use Rattle.queue.specs.declared.Queue.{Queue}
 use Rattle.queue.specs.declared.Ids.{Ids}
@@ -23,13 +26,13 @@ idIn n = n / 2 % 4294967296
 abbrev pub killIn : ℕ → Bool
 killIn n = eqb (n % 2) 1
 
-abbrev pub entryOf : ℕ → ℕ → Entry
-entryOf n threshold = record { id = idIn n; kill = killIn n; threshold = threshold }
+abbrev pub entryIn : ℕ → ℕ → Entry
+entryIn n threshold = record { id = idIn n; kill = killIn n; threshold = threshold }
 
 abbrev pub entriesOf : List ℕ → List ℕ → List Entry
 entriesOf [] levels = []
 entriesOf (n ∷ numbers) [] = []
-entriesOf (n ∷ numbers) (m ∷ levels) = entryOf n m ∷ entriesOf numbers levels
+entriesOf (n ∷ numbers) (m ∷ levels) = entryIn n m ∷ entriesOf numbers levels
 
 -- the outstanding requests. A count past the array's length is seen too, so that no such queue looks sound
 unfoldable pub listOf : Queue → List Entry
@@ -42,6 +45,14 @@ emptyQueue = record { numbers = replicate 16 0; thresholds = replicate 16 0; cou
 abbrev pub first : List Entry → Entry
 first [] = noEntry
 first (e ∷ queue) = e
+
+abbrev pub isSynthesizer : Kind → Bool
+isSynthesizer Kind.Synthesizer = true
+isSynthesizer Kind.Recognizer = false
+
+-- a state of that kind, in which some are outstanding unless `none` are
+abbrev pub fitsIn : Kind → State → Bool → Bool
+fitsIn kind state none = isStateOf kind state && Bool·beq (isBusy state) (not none)
 
 -- the entries whose bit, from bit j on, is as wanted
 abbrev pub marked : Bool → ℕ → ℕ → List Entry → List Entry

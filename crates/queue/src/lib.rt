@@ -1,17 +1,17 @@
 // The queue of a channel, and its state: document 01, "States and queue", and document 02, K1.
 ghost use mathlib.Core.Path.{_≡_};
-ghost use mathlib.Core.Bool.{_&&_};
-ghost use mathlib.Core.List.{[], _∷_, _++_};
+ghost use mathlib.Core.Bool.{true, false, _&&_};
+ghost use mathlib.Core.List.{List, [], _∷_, _++_};
 ghost use Prim.Native.Nat.{_<_, _≤_};
 ghost use lib.Dec.{leb};
 ghost use lib.ListN.{length};
 ghost use Rattle.lists.specs.Lists.{bit, isEmpty, ascends};
-ghost use Rattle.answer.specs.declared.Kind.{Kind};
-ghost use Rattle.synth.specs.Kinds.{most, isStateOf};
+ghost use Rattle.synth.specs.Kinds.{most};
 ghost use Rattle.synth.specs.Channel.{isBusy, ids as idsOf};
 ghost use Rattle.synth.specs.States.{whileAny, active as activeIn};
 ghost use Rattle.synth.specs.Calls.{awaits};
-ghost use Rattle.queue.specs.Queue.{idIn, killIn, listOf, emptyQueue, first, noIds, Lists, Ends};
+ghost use Rattle.synth.specs.declared.Entry.{Entry};
+ghost use Rattle.queue.specs.Queue.{idIn, killIn, listOf, isSynthesizer, fitsIn, emptyQueue, first, noIds, Lists, Ends};
 
 // How many may be outstanding: SPEAKs, and RECOGNIZEs.
 pub const MOST: usize = 16;
@@ -106,37 +106,49 @@ pub fn awaits(s: synth::State) -> bool
     }
 }
 
-fn is_synthesizers(s: synth::State) -> bool
-    ensures { λ r. ⌜ r ≡ isStateOf Kind.Synthesizer s ⌝ }
+fn is_synthesizer(kind: answer::Kind) -> bool
+    ensures { λ r. ⌜ r ≡ isSynthesizer kind ⌝ }
 {
-    match s {
-        synth::State::Idle => true,
-        synth::State::Speaking => true,
-        synth::State::Paused => true,
-        synth::State::Recognizing => false,
-        synth::State::Recognized => false,
+    match kind {
+        answer::Kind::Synthesizer => true,
+        answer::Kind::Recognizer => false,
     }
 }
 
-fn is_recognizers(s: synth::State) -> bool
-    ensures { λ r. ⌜ r ≡ isStateOf Kind.Recognizer s ⌝ }
+// Whether a channel of that kind can be in this state with none outstanding, and with some.
+fn fits_none(kind: answer::Kind, s: synth::State) -> bool
+    ensures { λ r. ⌜ r ≡ fitsIn kind s true ⌝ }
 {
     match s {
         synth::State::Idle => true,
         synth::State::Speaking => false,
         synth::State::Paused => false,
-        synth::State::Recognizing => true,
-        synth::State::Recognized => true,
+        synth::State::Recognizing => false,
+        synth::State::Recognized => !is_synthesizer(kind),
     }
 }
 
-pub fn is_state_of(kind: answer::Kind, s: synth::State) -> bool
-    ensures { λ r. ⌜ r ≡ isStateOf kind s ⌝ }
+fn fits_some(kind: answer::Kind, s: synth::State) -> bool
+    ensures { λ r. ⌜ r ≡ fitsIn kind s false ⌝ }
 {
-    match kind {
-        answer::Kind::Synthesizer => is_synthesizers(s),
-        answer::Kind::Recognizer => is_recognizers(s),
+    match s {
+        synth::State::Idle => false,
+        synth::State::Speaking => is_synthesizer(kind),
+        synth::State::Paused => is_synthesizer(kind),
+        synth::State::Recognizing => !is_synthesizer(kind),
+        synth::State::Recognized => false,
     }
+}
+
+// Whether the state is one of that kind, and one in which none are outstanding, or some, as it is: both tests in one
+// cost half of one after the other.
+pub fn fits(kind: answer::Kind, s: synth::State, none: bool) -> bool
+    ensures { λ r. ⌜ r ≡ fitsIn kind s none ⌝ }
+{
+    if none {
+        return fits_none(kind, s);
+    }
+    fits_some(kind, s)
 }
 
 pub fn empty() -> Queue
@@ -278,6 +290,34 @@ fn bit(mask: u64, j: usize) -> bool
     ensures { λ r. ⌜ r ≡ bit mask j ⌝ }
 {
     (mask >> j) & 1 == 1
+}
+
+// The queue without the active one, where there is one.
+pub fn without_active(q: Queue) -> Queue
+    ensures { λ r. ⌜ ((e : Entry) (queue : List Entry) → listOf q ≡ e ∷ queue → length queue < 16 → listOf r ≡ queue) ⌝ }
+{
+    if q.count == 0 {
+        return q;
+    }
+    if MOST < q.count {
+        return q;
+    }
+    let left = q.count - 1;
+    let old = q.numbers;
+    let levels = q.thresholds;
+    let mut numbers = [0u64; MOST];
+    let mut thresholds = [0u32; MOST];
+    let mut i: usize = 0;
+    while i < left {
+        numbers[i] = old[i + 1];
+        thresholds[i] = levels[i + 1];
+        i += 1;
+    }
+    Queue {
+        numbers,
+        thresholds,
+        count: left,
+    }
 }
 
 // Masks of a queue: an entry's bit is its place.

@@ -94,6 +94,15 @@ pub fn answer(channel: &mut Kept, input: &[u8]) -> String {
     }
 }
 
+/// A sound channel answers the request so, and is sound and so afterwards.
+pub fn check_turn(mut channel: Kept, rest: &str, expected: &str, after: &str) {
+    let what = format!("{rest} from {}", shown(&channel));
+    assert!(channel.is_sound(), "{what}");
+    assert_eq!(answer(&mut channel, &request(rest)), expected, "{what}");
+    assert_eq!(shown(&channel), after, "{what}");
+    assert!(channel.is_sound(), "{what}");
+}
+
 /// The channel as `show` prints it, without its name.
 pub fn shown(channel: &Kept) -> String {
     let mut text = Vec::new();

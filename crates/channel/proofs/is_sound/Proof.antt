@@ -22,27 +22,16 @@ and-last true true e = e
 and-last true false e = refl
 and-last false b e = refl
 
-beq-not : (a b : Bool) → Bool·beq a (not b) ≡ not (Bool·beq a b)
-beq-not true true = refl
-beq-not true false = refl
-beq-not false true = refl
-beq-not false false = refl
-
 named : (c : tie.Else1) → wellNamed (nameOf (c .before .before .before .args .c .name)) ≡ true
 named c = sym (c .before .is-well-named .ensures) ∙ not-false _ (c .if1 .left)
 
 kind-is : (c : tie.After-kind-by) → kindOf (nameOf (c .before .before .before .before .args .c .name)) ≡ c .kind-by .result
 kind-is c = named-kind _ (named (c .before)) ∙ sym (c .kind-by .ensures)
 
-state-tested : (c : tie.After-is-state-of) → let ch = c .before .before .before .before .before .args .c in
-    isStateOf (kindOf (nameOf (ch .name))) (ch .state) ≡ c .is-state-of .result
-state-tested c = rw (kind-is (c .before)) (sym (c .is-state-of .ensures))
-
-busy-tested : (c : tie.After-is-empty) → let ch = c .before .before .before .before .before .before .before .before .before .args .c in
-    Bool·beq (isBusy (ch .state)) (not (isEmpty (listOf (ch .queue)))) ≡ not (Bool·beq (c .before .is-busy .result) (c .is-empty .result))
-busy-tested c =
-    let ch = c .before .before .before .before .before .before .before .before .before .args .c in
-    rw (c .before .is-busy .ensures, c .is-empty .ensures) (beq-not (isBusy (ch .state)) (isEmpty (listOf (ch .queue))))
+-- the tests of the state
+fitted : (c : tie.After-fits2) → let ch = c .before .before .before .before .before .before .before .args .c in
+    isStateOf (kindOf (nameOf (ch .name))) (ch .state) && Bool·beq (isBusy (ch .state)) (not (isEmpty (listOf (ch .queue)))) ≡ c .fits2 .result
+fitted c = rw (kind-is (c .before .before .before), ← c .before .is-empty .ensures) (sym (c .fits2 .ensures))
 
 is-well-named-requires : tie.Need-is-well-named-requires
 is-well-named-requires c κs = search needs
@@ -54,34 +43,24 @@ returns c = rw (sym (c .before .is-well-named .ensures) ∙ not-true _ (c .if1 .
 kind-by-requires : tie.Need-kind-by-requires
 kind-by-requires c κs = search needs
 
-is-state-of-requires : tie.Need-is-state-of-requires
-is-state-of-requires c κs = search needs
-
-returns-2 : tie.Need-returns-2
-unfolding sound
-returns-2 c = rw (named (c .before .before .before), state-tested (c .before) ∙ not-true _ (c .if2 .taken))
-
-is-busy-requires : tie.Need-is-busy-requires
-is-busy-requires c κs = search needs
-
 is-empty-requires : tie.Need-is-empty-requires
 is-empty-requires c κs = search needs
 
-returns-3 : tie.Need-returns-3
+fits-requires : tie.Need-fits-requires
+fits-requires c κs = search needs
+
+returns-2 : tie.Need-returns-2
 unfolding sound
-returns-3 c =
-    let else2 = c .before .before .before .before in
-    rw (named (else2 .before .before .before), state-tested (else2 .before) ∙ not-false _ (else2 .if2 .left), busy-tested (c .before) ∙ ap not (c .if3 .taken))
+returns-2 c = rw (named (c .before .before .before .before .before), fitted (c .before) ∙ not-true _ (c .if2 .taken))
 
 idle-unseen-requires : tie.Need-idle-unseen-requires
 idle-unseen-requires c κs = search needs
 
-returns-4 : tie.Need-returns-4
+returns-3 : tie.Need-returns-3
 unfolding sound
-returns-4 c =
-    let else3 = c .before .before in
-    let else2 = else3 .before .before .before .before in
-    rw (named (else2 .before .before .before), state-tested (else2 .before) ∙ not-false _ (else2 .if2 .left), busy-tested (else3 .before) ∙ ap not (else3 .if3 .left), sym (c .before .idle-unseen .ensures) ∙ not-true _ (c .if4 .taken))
+returns-3 c =
+    let else2 = c .before .before in
+    rw (named (else2 .before .before .before .before .before), fitted (else2 .before) ∙ not-false _ (else2 .if2 .left), sym (c .before .idle-unseen .ensures) ∙ not-true _ (c .if3 .taken))
 
 first-above-requires : tie.Need-first-above-requires
 first-above-requires c κs = search needs
@@ -89,20 +68,20 @@ first-above-requires c κs = search needs
 is-rising-requires : tie.Need-is-rising-requires
 is-rising-requires c κs = search needs
 
-returns-5 : tie.Need-returns-5
+returns-4 : tie.Need-returns-4
 unfolding sound
-returns-5 c =
-    let else4 = c .before .before in
-    let else3 = else4 .before .before in
-    let else2 = else3 .before .before .before .before in
-    let at = else2 .before .before .before .before .before .before in
+returns-4 c =
+    let else3 = c .before .before in
+    let else2 = else3 .before .before in
+    let told = else2 .before .before .before .before in
+    let at = told .before .before .before .before in
     let above = c .before .first-above .ensures in
     let in-range : firstAbove (at .args .last) ≤ 4294967296 = rw (← above .0) (above .1) in
     let q = at .args .c .queue in
     let last = at .args .last in
     let kind : Kind = kindOf (nameOf (at .args .c .name)) in
-    rw (named (else2 .before .before .before), state-tested (else2 .before) ∙ not-false _ (else2 .if2 .left), busy-tested (else3 .before) ∙ ap not (else3 .if3 .left), sym (else4 .before .idle-unseen .ensures) ∙ not-false _ (else4 .if4 .left))
-    (c .is-rising .ensures ∙ rw (above .0, ← kind-is (else2 .before .before)) (sym (and-last (leb (length (listOf q)) (most kind)) (ascends 0 (ids (listOf q)) (firstAbove last)) (le-leb (firstAbove last) 4294967296 in-range))))
+    rw (named (told .before), fitted (else2 .before) ∙ not-false _ (else2 .if2 .left), sym (else3 .before .idle-unseen .ensures) ∙ not-false _ (else3 .if3 .left))
+    (c .is-rising .ensures ∙ rw (above .0, ← kind-is told) (sym (and-last (leb (length (listOf q)) (most kind)) (ascends 0 (ids (listOf q)) (firstAbove last)) (le-leb (firstAbove last) 4294967296 in-range))))
 
 pub is-sound-spec : {M : Type 1} → statement M
 is-sound-spec =
@@ -111,13 +90,11 @@ is-sound-spec =
     is-well-named-requires
     returns
     kind-by-requires
-    is-state-of-requires
-    returns-2
-    is-busy-requires
     is-empty-requires
-    returns-3
+    fits-requires
+    returns-2
     idle-unseen-requires
-    returns-4
+    returns-3
     first-above-requires
     is-rising-requires
-    returns-5)
+    returns-4)

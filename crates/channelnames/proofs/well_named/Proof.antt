@@ -4,12 +4,12 @@ use mathlib.Core.Path.{_≡_, sym, ap, _∙_}
 use mathlib.Core.List.{List}
 use native.Mathlib.Omega.{arith}
 use lib.ListN.{length}
-use lib.Seq.{length-take-le}
+use borrow.Author.Tests.{not-true, not-false}
 use Rattle.lists.specs.Lists.{same}
 use Rattle.octets.specs.Octets.{bytes}
 use Rattle.answer.specs.declared.Kind.{Kind}
 use Rattle.channelnames.proofs.Parts.{part-to-end}
-use Rattle.channelnames.proofs.Words.{too-short, too-long, no-word, ends-in, ends-otherwise}
+use Rattle.channelnames.proofs.Words.{too-short, too-long, ends-in, ends-otherwise}
 use borrow.Author.Needs.{needs}
 use Rattle.channelnames.proofs.well_named.Statement.{statement}
 use Rattle.channelnames.proofs.well_named.Tie as tie
@@ -23,19 +23,11 @@ returns-2 c = too-long (c .before .before .before .args .name .now) (omega (arit
 sub-k : tie.Need-sub-k
 sub-k c = search needs
 
-slice-aggregate-word : tie.Need-slice-aggregate-word
-slice-aggregate-word c =
-    let name = c .before .before .before .before .args .name .now in
-    sym (length-take-le (length name - 12) name (omega arith))
-
-word-requires : tie.Need-word-requires
-word-requires c κs = search needs
+has-word-requires : tie.Need-has-word-requires
+has-word-requires c κs = let name = c .before .before .before .args .name .now in let place : length name ≡ length name - 12 + 12 = omega (arith, c .before .if1 .left) in place
 
 returns-3 : tie.Need-returns-3
-returns-3 c =
-    let name = c .before .before .before .before .before .before .args .name .now in
-    let place : length name ≡ length name - 12 + 12 = omega (arith, c .before .before .before .before .if1 .left) in
-    no-word name (length name - 12) place (λ e. c .if3 .taken (c .before .word .ensures .0 ∙ e))
+returns-3 c = sym (c .before .has-word .ensures .1 (not-true _ (c .if3 .taken)))
 
 sub-equal : tie.Need-sub-equal
 sub-equal c = search needs
@@ -54,12 +46,12 @@ equal-requires c κs = search needs
 
 returns-4 : tie.Need-returns-4
 returns-4 c =
-    let name = c .before .before .before .before .before .before .before .before .before .before .args .name .now in
+    let name = c .before .before .before .before .before .before .before .before .before .args .name .now in
     let k = length name - 12 in
-    let place : length name ≡ k + 12 = omega (arith, c .before .before .before .before .before .before .before .before .if1 .left) in
-    let some : 1 ≤ k = omega (arith, c .before .before .before .before .before .before .before .before .if1 .left) in
-    let most : k ≤ 32 = omega (arith, c .before .before .before .before .before .before .before .if2 .left) in
-    let word = sym (c .before .before .before .before .before .word .ensures .0) ∙ c .before .before .before .before .if3 .left in
+    let place : length name ≡ k + 12 = omega (arith, c .before .before .before .before .before .before .before .if1 .left) in
+    let some : 1 ≤ k = omega (arith, c .before .before .before .before .before .before .before .if1 .left) in
+    let most : k ≤ 32 = omega (arith, c .before .before .before .before .before .before .if2 .left) in
+    let word = c .before .before .before .before .before .has-word .ensures .0 (not-false _ (c .before .before .before .before .if3 .left)) in
     let tail = ap (λ (l : List ℕ). same l (bytes "@speechsynth")) (sym (part-to-end name k)) ∙ sym (c .before .equal .ensures) ∙ c .if4 .taken in
     ends-in name k place word some most Kind.Synthesizer tail
 
@@ -80,12 +72,12 @@ equal-requires-2 c κs = search needs
 
 returns-5 : tie.Need-returns-5
 returns-5 c =
-    let name = c .before .before .before .before .before .before .before .before .before .before .before .before .before .args .name .now in
+    let name = c .before .before .before .before .before .before .before .before .before .before .before .before .args .name .now in
     let k = length name - 12 in
-    let place : length name ≡ k + 12 = omega (arith, c .before .before .before .before .before .before .before .before .before .before .before .if1 .left) in
-    let some : 1 ≤ k = omega (arith, c .before .before .before .before .before .before .before .before .before .before .before .if1 .left) in
-    let most : k ≤ 32 = omega (arith, c .before .before .before .before .before .before .before .before .before .before .if2 .left) in
-    let word = sym (c .before .before .before .before .before .before .before .before .word .ensures .0) ∙ c .before .before .before .before .before .before .before .if3 .left in
+    let place : length name ≡ k + 12 = omega (arith, c .before .before .before .before .before .before .before .before .before .before .if1 .left) in
+    let some : 1 ≤ k = omega (arith, c .before .before .before .before .before .before .before .before .before .before .if1 .left) in
+    let most : k ≤ 32 = omega (arith, c .before .before .before .before .before .before .before .before .before .if2 .left) in
+    let word = c .before .before .before .before .before .before .before .before .has-word .ensures .0 (not-false _ (c .before .before .before .before .before .before .before .if3 .left)) in
     let other = ap (λ (l : List ℕ). same l (bytes "@speechsynth")) (sym (part-to-end name k)) ∙ sym (c .before .before .before .before .equal .ensures) ∙ c .before .before .before .if4 .left in
     ends-otherwise name k place word some most (c .equal2 .result) other
     (c .equal2 .ensures ∙ ap (λ (l : List ℕ). same l (bytes "@speechrecog")) (part-to-end name k))
@@ -97,8 +89,7 @@ well-named-spec =
     returns
     returns-2
     sub-k
-    slice-aggregate-word
-    word-requires
+    has-word-requires
     returns-3
     sub-equal
     part-equal-start

@@ -22,7 +22,7 @@ use Rattle.synth.specs.declared.State.the-variants.{Idle, Speaking, Paused, Rec
 use Rattle.synth.specs.declared.Entry.{Entry}
 use Rattle.synth.specs.declared.LastId.{LastId}
 use Rattle.synth.specs.declared.LastId.the-variants.{NoneSeen, Seen}
-use Rattle.channelnumbers.specs.Numbers.{kind, entryNumber, thresholds, padded, queueNumbers, numbersOf, stateAt, lastAt, entryAt, leveled, numbersAt, entriesAt, isThreshold, thresholdsFit, whereFit, viewWith, viewAt, viewOf}
+use Rattle.channelnumbers.specs.Numbers.{entryNumber, thresholds, padded, queueNumbers, numbersOf, stateAt, lastAt, entryAt, leveled, numbersAt, entriesAt, isThreshold, thresholdsFit, whereFit, viewWith, viewAt, viewOf}
 use Rattle.channelnumbers.proofs.Saving.{queue-16}
 use Rattle.synth.proofs.Channels.{sound-facts}
 use Rattle.channelnames.specs.Names.{kindBy}
@@ -126,21 +126,21 @@ module _ (front : List ℕ) (four : length front ≡ 4) (queue : List Entry) (r 
       ∙ leveled-back queue
 
 -- a sound channel has no more than its kind
-pub sound-few : (v : View) → sound v ≡ true → length (v .queue) ≤ most (kind v)
+pub sound-few : (v : View) → sound v ≡ true → length (v .queue) ≤ most (kindBy (v .name))
 sound-few v s = let f = sound-facts v s in rw (named-kind (v .name) (f .named)) at (f .few)
 
 pub fit-some : (v : View) → thresholdsFit v ≡ true → whereFit v ≡ some v
 fit-some v fit = rw (fit, whereFit)
 
-module _ (v : View) (few : length (v .queue) ≤ most (kind v)) (short : length (v .name) ≤ 44) (fit : thresholdsFit v ≡ true) where
+module _ (v : View) (few : length (v .queue) ≤ most (kindBy (v .name))) (short : length (v .name) ≤ 44) (fit : thresholdsFit v ≡ true) where
   abbrev front : List ℕ
   front = stateNumber (v .state) ∷ firstAbove (v .last) ∷ length (v .queue) ∷ length (v .name) ∷ []
 
   abbrev sixteen : List ℕ
-  sixteen = padded 16 (queueNumbers (kind v) (v .queue))
+  sixteen = padded 16 (queueNumbers (kindBy (v .name)) (v .queue))
 
   twenty : length (front ++ sixteen) ≡ 20
-  twenty = simp (length-append, length-replicate) (omega (arith, queue-16 (v .queue) (kind v) few))
+  twenty = simp (length-append, length-replicate) (omega (arith, queue-16 (v .queue) (kindBy (v .name)) few))
 
   name-back : numbersAt 20 (length (v .name)) (front ++ (sixteen ++ padded 44 (v .name))) ≡ v .name
   name-back =
@@ -155,7 +155,7 @@ module _ (v : View) (few : length (v .queue) ≤ most (kind v)) (short : length 
         name = name-back i;
         state = v .state;
         queue = (ap (λ (name : List ℕ). entriesAt (kindBy name) (length (v .queue)) (numbersOf v)) name-back
-            ∙ queue-back front refl (v .queue) (padded 44 (v .name)) (kind v) few fit) i;
+            ∙ queue-back front refl (v .queue) (padded 44 (v .name)) (kindBy (v .name)) few fit) i;
         last = last-back (v .last) i;
       })
       ∙ fit-some v fit

@@ -37,8 +37,9 @@ use Rattle.synth.specs.declared.Method.{Method}
 use Rattle.synth.specs.declared.Entry.{Entry}
 use Rattle.synth.specs.declared.LastId.the-variants.{Seen}
 use Rattle.synth.proofs.Channels.{sound-facts}
+use Rattle.channelnames.specs.Names.{kindBy}
 use Rattle.channelnames.proofs.Tails.{named-kind}
-use Rattle.channelnumbers.specs.Numbers.{kind, thresholds, isThreshold, thresholdsFit}
+use Rattle.channelnumbers.specs.Numbers.{thresholds, isThreshold, thresholdsFit}
 
 abbrev Fit : Kind → List Entry → Type 0
 Fit k queue = all (isThreshold k) (thresholds queue) ≡ true
@@ -98,16 +99,16 @@ module _ (v : View) (fit : thresholdsFit v ≡ true) where
   barge-in-fit [] r = fit
   barge-in-fit (e ∷ queue) r = choose Fits (e .kill) (λ _. refl) (λ _. fit)
 
-  module _ (r : Request) (s : Suits (kind v) (r .method)) where
+  module _ (r : Request) (s : Suits (kindBy (v .name)) (r .method)) where
     enter-fit : (active : State) → Fits (enter active v r)
     enter-fit active =
-        let h = joined-fit (kind v) (v .queue) (entryOf r) fit (entry-fit (kind v) r s) in
+        let h = joined-fit (kindBy (v .name)) (v .queue) (entryOf r) fit (entry-fit (kindBy (v .name)) r s) in
         choose Fits (isBusy (v .state)) (λ _. h) (λ _. h)
 
     act-fit : (m : Method) → Fits (act m v r)
     unfolding act
     act-fit Method.Speak = enter-fit Speaking
-    act-fit Method.Stop = kept-fit (kind v) (λ e. not (ends (acting ActiveRequestIdList r) e)) (v .queue) fit
+    act-fit Method.Stop = kept-fit (kindBy (v .name)) (λ e. not (ends (acting ActiveRequestIdList r) e)) (v .queue) fit
     act-fit Method.Pause = fit
     act-fit Method.Resume = choose Fits (is (v .state) Paused) (λ _. fit) (λ _. fit)
     act-fit Method.Control = fit
@@ -120,7 +121,7 @@ module _ (v : View) (fit : thresholdsFit v ≡ true) where
     late-fit passes = act-fit (r .method)
     late-fit (fails status) = fit
 
-judge-fit : (v : View) → thresholdsFit v ≡ true → (r : Request) → Suits (kind v) (r .method) → Fits (judge v r)
+judge-fit : (v : View) → thresholdsFit v ≡ true → (r : Request) → Suits (kindBy (v .name)) (r .method) → Fits (judge v r)
 unfolding judge
 judge-fit v fit r s = go (early v r)
   where
@@ -151,7 +152,7 @@ suited Kind.Recognizer m e = absurd (false≢true (ap isSynthesizer (sym e)))
 abbrev Keeps : Turn View Reply → Type 0
 Keeps t = thresholdsFit (t .next) ≡ true
 
-module _ (v : View) (fit : thresholdsFit v ≡ true) (told : kindOf (v .name) ≡ kind v) where
+module _ (v : View) (fit : thresholdsFit v ≡ true) (told : kindOf (v .name) ≡ kindBy (v .name)) where
   delivered-fit : (consumed room : ℕ) (o : Outcome) → Fits o → Keeps (deliver v consumed room o)
   unfolding deliver
   delivered-fit consumed room o h = choose Keeps (ltb room (length (writtenAll (o .says)))) (λ _. fit) (λ _. h)
@@ -164,13 +165,13 @@ module _ (v : View) (fit : thresholdsFit v ≡ true) (told : kindOf (v .name) �
   answer-fit room (message h (event name id state) fs) = fit
 
   module _ (cause : ℕ) (score : Float) where
-    completed-fit : (k : Kind) (e : Entry) (queue : List Entry) → Fit (kind v) queue → Fits (completed k e queue v cause score)
+    completed-fit : (k : Kind) (e : Entry) (queue : List Entry) → Fit (kindBy (v .name)) queue → Fits (completed k e queue v cause score)
     completed-fit Kind.Synthesizer e queue h = h
     completed-fit Kind.Recognizer e queue h = choose Fits (isMatch (counted (e .threshold) cause score)) (λ _. h) (λ _. refl)
 
-    ending-fit : (queue : List Entry) → Fit (kind v) queue → (room : ℕ) → Keeps (ending queue v cause score room)
+    ending-fit : (queue : List Entry) → Fit (kindBy (v .name)) queue → (room : ℕ) → Keeps (ending queue v cause score room)
     ending-fit [] h room = fit
-    ending-fit (e ∷ queue) h room = delivered-fit 0 room _ (completed-fit (kindOf (v .name)) e queue (rest-fit (kind v) e queue h))
+    ending-fit (e ∷ queue) h room = delivered-fit 0 room _ (completed-fit (kindOf (v .name)) e queue (rest-fit (kindBy (v .name)) e queue h))
 
     reported-fit : (room : ℕ) → Keeps (reported v cause score room)
     unfolding reported

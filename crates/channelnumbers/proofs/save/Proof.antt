@@ -2,8 +2,8 @@
 use mathlib.Core.Path.{refl}
 use native.Mathlib.Omega.{arith}
 use Rattle.synth.proofs.Channels.{most-16}
+use Rattle.channelnames.specs.Names.{kindBy}
 use Rattle.channel.specs.Channel.{view}
-use Rattle.channelnumbers.specs.Numbers.{kind}
 use Rattle.channelnumbers.proofs.Saving.{counted, sized, saved-numbers}
 use borrow.Author.Needs.{needs}
 use Rattle.channelnumbers.proofs.save.Statement.{statement}
@@ -13,7 +13,7 @@ returns : tie.Need-returns
 returns c =
     let at = c .before .before .before .before .before in
     let many = counted (at .args .c) _ (at .good .1 .0) in
-    (λ short few. absurd (omega (arith, few, most-16 (kind (view (at .args .last) (at .args .c))), many, c .if1 .taken)), (λ long. refl, λ more. refl))
+    (λ short few. absurd (omega (arith, few, most-16 (kindBy (view (at .args .last) (at .args .c) .name)), many, c .if1 .taken)), (λ long. refl, λ more. refl))
 
 returns-2 : tie.Need-returns-2
 returns-2 c =

@@ -1,6 +1,8 @@
 -- `engine::end_speech` writes the event for the active one, or refuses. Assumes nothing.
-use mathlib.Core.Path.{sym, _∙_}
+use Prim.Native.Nat.{_<_}
+use mathlib.Core.Path.{sym, ap, _∙_}
 use native.Mathlib.Omega.{arith}
+use lib.ListN.{length}
 use lib.Seq.{length-take-le}
 use Rattle.answer.specs.declared.Kind.{Kind}
 use Rattle.synth.specs.Channel.{withQueue}
@@ -11,7 +13,7 @@ use Rattle.channelnames.proofs.Names.{within}
 use Rattle.channel.specs.Channel.{view}
 use Rattle.channel.proofs.Parts.{bytes-44, size-short}
 use Rattle.calls.proofs.Leaving.{queue-short, leaves-too-long, leaves-answer}
-use Rattle.engine.proofs.Reports.{event-written, next-active}
+use Rattle.engine.proofs.Reports.{event-written}
 use borrow.Author.Needs.{needs}
 use Rattle.engine.proofs.end_speech.Statement.{statement}
 use Rattle.engine.proofs.end_speech.Tie as tie
@@ -21,13 +23,13 @@ active-requires c κs = search needs
 
 array-share-prefix-bytes : tie.Need-array-share-prefix-bytes
 array-share-prefix-bytes c =
-    let at = c .before .before .before .before .before .before in
+    let at = c .before .before .before .before .before in
     let ch = at .args .c in
     omega (arith, bytes-44 ch _ (at .good .1 .0), size-short ch _ (at .good .1 .0) (at .args .last) (at .pre))
 
 slice-aggregate-speak-complete : tie.Need-slice-aggregate-speak-complete
 slice-aggregate-speak-complete c =
-    let at = c .before .before .before .before .before .before .before in
+    let at = c .before .before .before .before .before .before in
     let ch = at .args .c in
     sym (length-take-le (ch .name .size) (ch .name .bytes) (omega (arith, bytes-44 ch _ (at .good .1 .0), size-short ch _ (at .good .1 .0) (at .args .last) (at .pre))))
 
@@ -43,8 +45,8 @@ refused-requires c κs = search needs
 enum-known-w : tie.Need-enum-known-w
 enum-known-w c = search needs
 
-end-requires : tie.Need-end-requires
-end-requires c κs = search needs
+without-active-requires : tie.Need-without-active-requires
+without-active-requires c κs = search needs
 
 while-any-requires : tie.Need-while-any-requires
 while-any-requires c κs = search needs
@@ -58,7 +60,7 @@ same-length c = search needs
 returns : tie.Need-returns
 returns c =
     λ e queue q.
-    let at = c .before .before .before .before .before .before .before .before .before .before .before .before .before in
+    let at = c .before .before .before .before .before .before .before .before .before .before .before .before in
     let a = at .args in
     let v = view (a .last) (a .c) in
     let named = within (a .c .name) (size-short (a .c) _ (at .good .1 .0) (a .last) (at .pre)) in
@@ -72,15 +74,16 @@ same-length-2 c = search needs
 returns-2 : tie.Need-returns-2
 returns-2 c =
     λ e queue q.
-    let at = c .before .before .before .before .before .before .before .before .before .before .before .before .before .before .before .before .before in
+    let at = c .before .before .before .before .before .before .before .before .before .before .before .before .before .before .before in
     let a = at .args in
     let v = view (a .last) (a .c) in
     let named = within (a .c .name) (size-short (a .c) _ (at .good .1 .0) (a .last) (at .pre)) in
-    let says = event-written v _ _ e queue (a .cause) q (c .before .before .before .before .before .before .before .before .before .before .before .before .before .before .active .ensures) named in
-    let rest = next-active (listOf (a .c .queue)) e queue (c .before .before .before .end .result) q (queue-short v (at .pre)) (c .before .before .before .end .ensures .0) in
-    leaves-answer (a .last) (a .c) 0 (a .out .now) _ (endsOne Kind.Synthesizer Idle Speaking e queue v (a .cause)) says _ (c .before .before .before .before .before .before .before .before .before .speak-complete .ensures .0) _ (c .before .before .before .before .before .before .before .before .before .speak-complete .ensures .1)
-    _ (c .before .before .before .before .before .w .given .1) (a .last) (c .with-queue .result)
-    (c .with-queue .ensures (a .last) ∙ (λ i. withQueue (c .before .while-any .ensures i) (listOf (c .before .before .before .end .result .queue)) v) ∙ (λ i. withQueue (whileAny Idle Speaking (rest i)) (rest i) v))
+    let says = event-written v _ _ e queue (a .cause) q (c .before .before .before .before .before .before .before .before .before .before .before .before .before .active .ensures) named in
+    let short : length queue < 16 = omega (arith, queue-short v (at .pre), ap length q) in
+    let rest = c .before .before .without-active .ensures e queue q short in
+    leaves-answer (a .last) (a .c) 0 (a .out .now) _ (endsOne Kind.Synthesizer Idle Speaking e queue v (a .cause)) says _ (c .before .before .before .before .before .before .before .before .speak-complete .ensures .0) _ (c .before .before .before .before .before .before .before .before .speak-complete .ensures .1)
+    _ (c .before .before .before .before .w .given .1) (a .last) (c .with-queue .result)
+    (c .with-queue .ensures (a .last) ∙ (λ i. withQueue (c .before .while-any .ensures i) (listOf (c .before .before .without-active .result)) v) ∙ (λ i. withQueue (whileAny Idle Speaking (rest i)) (rest i) v))
 
 pub end-speech-spec : {M : Type 1} → statement M
 end-speech-spec =
@@ -93,7 +96,7 @@ end-speech-spec =
     enum-told
     refused-requires
     enum-known-w
-    end-requires
+    without-active-requires
     while-any-requires
     with-queue-requires
     same-length

@@ -2,15 +2,17 @@
 -- Assumes nothing.
 use mathlib.Core.Path.{_≡_, sym, _∙_}
 use mathlib.Core.Bool.{true}
-use Prim.Native.Nat.{_-_, _^_, _≤_, _<_}
+use Prim.Native.Nat.{ℕ, _-_, _^_, _≤_, _<_}
 use native.Mathlib.Nat.{pow-le-pow-right}
 use native.Mathlib.Numerals.{add-one}
 use native.Mathlib.Omega.{arith}
-use lib.Dec.{lit<}
+use lib.Dec.{leb, lit<}
 use lib.ListN.{length, getD}
-use borrow.Author.Tests.{not-false}
+use borrow.Author.Tests.{leb-true, not-false}
+use Rattle.lists.proofs.Tests.{both}
 use Rattle.octets.specs.Octets.{isDigit}
 use Rattle.readers.proofs.Decimals.{digit-bounds, grown}
+use Rattle.idlist.specs.Named.{inRange}
 use Rattle.idlist.proofs.Pass.{Midway, started, end-id, end-wrong, turn-id, turn-wrong, turn-other, turn-full, turn-digit}
 use Rattle.idlist.proofs.named.Statement.{statement}
 use Rattle.idlist.proofs.named.Tie as tie
@@ -45,6 +47,13 @@ in-range-requires c κs = tt
 
 returns : tie.Need-returns Inv-loop μ-loop
 returns c = turn-wrong (c .before .before .before .before .before .loop .inv .0) (c .before .before .before .before .loop-test .taken) (c .before .before .if1 .taken) (c .before .in-range .ensures) (c .if2 .taken)
+
+-- an id within range
+in-32 : (value count : ℕ) → inRange value count ≡ true → value ≤ 4294967295
+in-32 value count e = leb-true value 4294967295 (both (leb 1 count) (leb value 4294967295) e .1)
+
+cast-places : tie.Need-cast-places Inv-loop μ-loop
+cast-places c = let l = c .before .before .before .before .before .loop in omega (arith, in-32 (l .value) (l .count) (sym (c .before .in-range .ensures) ∙ not-false _ (c .if2 .left)))
 
 places-requires : tie.Need-places-requires Inv-loop μ-loop
 places-requires c κs = tt
@@ -104,6 +113,9 @@ in-range-requires-2 c κs = tt
 returns-4 : tie.Need-returns-4 Inv-loop μ-loop
 returns-4 c = end-wrong (c .before .before .before .loop .inv .0) (c .before .before .loop-test .left) (c .before .in-range2 .ensures) (c .if5 .taken)
 
+cast-places-2 : tie.Need-cast-places-2 Inv-loop μ-loop
+cast-places-2 c = let l = c .before .before .before .loop in omega (arith, in-32 (l .value) (l .count) (sym (c .before .in-range2 .ensures) ∙ not-false _ (c .if5 .left)))
+
 places-requires-2 : tie.Need-places-requires-2 Inv-loop μ-loop
 places-requires-2 c κs = tt
 
@@ -121,6 +133,7 @@ named-spec =
     add-i
     in-range-requires
     returns
+    cast-places
     places-requires
     loop-less
     loop-again
@@ -136,5 +149,6 @@ named-spec =
     loop-again-2
     in-range-requires-2
     returns-4
+    cast-places-2
     places-requires-2
     returns-5)

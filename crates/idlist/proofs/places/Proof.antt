@@ -1,71 +1,85 @@
--- `idlist::places` meets its contract. The invariant: `bits` has a bit for each place below j where id stands. Assumes nothing.
-use mathlib.Core.Path.{_≡_, refl, ap, _∙_}
+-- `idlist::places` meets its contract. The invariant: `bits` are those of the places from j on. Assumes nothing.
+use mathlib.Core.Path.{_≡_, sym, ap, ap₂, _∙_}
+use mathlib.Core.Bool.{Bool, true, false, cond}
 use mathlib.Core.List.{[], _∷_}
-use mathlib.Core.Logic.{⊎-elim}
-use Prim.Native.Nat.{ℕ, _-_, _*_, _%_, _^_, _≤_, _<_}
+use Prim.Native.Nat.{ℕ, suc, _+_, _-_, _*_, _≤_, _<_}
 use native.Mathlib.Omega.{arith}
-use lib.Bits.{bitOr}
-use lib.ListN.{length, take}
-use lib.Seq.{take-all}
+use lib.Dec.{eqb}
+use lib.ListN.{length, take, drop, getD, length-take}
+use lib.Seq.{drop-length, getD-take}
 use Rattle.idlist.specs.Named.{bitsFrom}
-use Rattle.idlist.proofs.Marks.{its-place, other-place}
+use Rattle.idlist.proofs.Marks.{next-place, room-left}
+use borrow.Author.Needs.{needs}
 use Rattle.idlist.proofs.places.Statement.{statement}
 use Rattle.idlist.proofs.places.Tie as tie
 
 abbrev Inv-loop : tie.InvT-loop
-Inv-loop ids id bits₀ j₀ bits j = (bits ≡ bitsFrom 0 (id ∷ []) (take j ids)) × (j ≤ 64) × (j ≤ length ids)
+Inv-loop ids id bits₀ j₀ bits j = (bits ≡ bitsFrom 0 (id ∷ []) (drop j (take 64 ids))) × (j ≤ 64) × (j ≤ length ids)
 
 abbrev μ-loop : tie.MeasureT-loop
-μ-loop ids id bits₀ j₀ bits j = 64 - j
+μ-loop ids id bits₀ j₀ bits j = j
+
+one-at-most : (b : Bool) (m : ℕ) → m ≡ cond b 1 0 → m ≤ 1
+one-at-most true m e = omega (arith, e)
+one-at-most false m e = omega (arith, e)
+
+at-most-64-requires : tie.Need-at-most-64-requires Inv-loop μ-loop
+at-most-64-requires c κs = search needs
 
 loop-holds : tie.Need-loop-holds Inv-loop μ-loop
-loop-holds c = (refl, omega arith, omega arith)
+loop-holds c =
+    let ids = c .before .before .args .ids .now in
+    let j = c .at-most-64 .result in
+    let end : j ≡ length (take 64 ids) = omega (arith, c .at-most-64 .ensures, length-take 64 ids) in
+    (sym (ap (bitsFrom 0 (c .before .before .args .id ∷ [])) (ap (λ k. drop k (take 64 ids)) end ∙ drop-length (take 64 ids))), omega (arith, c .at-most-64 .ensures), omega (arith, c .at-most-64 .ensures))
 
-returns : tie.Need-returns Inv-loop μ-loop
-returns c =
-    let l = c .before .before in
-    let ids = l .before .args .ids .now in
-    rw (take-all 64 ids (omega arith)) (rw (take-all (l .loop .j) ids (omega arith)) at (l .loop .inv .0))
+sub-j : tie.Need-sub-j Inv-loop μ-loop
+sub-j c = search needs
 
-mul-if2 : tie.Need-mul-if2 Inv-loop μ-loop
-mul-if2 c = omega arith
+mul-bits : tie.Need-mul-bits Inv-loop μ-loop
+mul-bits c =
+    let l = c .before .loop in
+    let a = c .before .before .before .before .args in
+    omega (arith, l .inv .0, room-left (a .id ∷ []) (take 64 (a .ids .now)) (l .j) (omega (arith, length-take 64 (a .ids .now))) (omega arith))
 
-shared-slice-read-if2 : tie.Need-shared-slice-read-if2 Inv-loop μ-loop
-shared-slice-read-if2 c = omega arith
+mul-bit-where : tie.Need-mul-bit-where Inv-loop μ-loop
+mul-bit-where c = search needs
 
-cast-if2 : tie.Need-cast-if2 Inv-loop μ-loop
-cast-if2 c = omega (arith, c .shared-slice-known .given (c .before .before .before .loop .j))
+shared-slice-read-bit-where : tie.Need-shared-slice-read-bit-where Inv-loop μ-loop
+shared-slice-read-bit-where c = search needs
 
-shl-bits : tie.Need-shl-bits Inv-loop μ-loop
-shl-bits c = omega arith
+bit-where-requires : tie.Need-bit-where-requires Inv-loop μ-loop
+bit-where-requires c κs = search needs
 
-add-j : tie.Need-add-j Inv-loop μ-loop
-add-j c = omega arith
+add-bits : tie.Need-add-bits Inv-loop μ-loop
+add-bits c =
+    let l = c .before .before .before .loop in
+    let a = c .before .before .before .before .before .before .args in
+    omega (arith, l .inv .0, room-left (a .id ∷ []) (take 64 (a .ids .now)) (l .j) (omega (arith, length-take 64 (a .ids .now))) (omega arith), one-at-most (eqb (getD (a .ids .now) (l .j - 1) 0) (a .id)) _ (c .bit-where .ensures))
 
 loop-less : tie.Need-loop-less Inv-loop μ-loop
-loop-less c = omega arith
+loop-less c = search needs
 
 loop-again : tie.Need-loop-again Inv-loop μ-loop
 loop-again c =
-    let l = c .before .before .before .before in
-    let a = l .before .args in
-    let j = l .loop .j in
-    let h : j < length (a .ids .now) = omega arith in (
-      ⊎-elim
-          (λ w. w .1 ∙ ap (λ (b : ℕ). bitOr b (1 * 2 ^ j % 2 ^ 64)) (l .loop .inv .0)
-          ∙ its-place (a .id) (a .ids .now) j h (omega arith) (w .0 .taken))
-          (λ w. w .1 ∙ l .loop .inv .0 ∙ other-place (a .id) (a .ids .now) j h (w .0 .left))
-          (c .if2 .came),
+    let l = c .before .before .before .loop in
+    let a = c .before .before .before .before .before .before .args in
+    let ids = a .ids .now in
+    let j = l .j - 1 in
+    let h : j < length (take 64 ids) = omega (arith, length-take 64 ids) in
+    let behind : suc j ≡ l .j = omega arith in (
+      ap₂ (λ (b m : ℕ). b * 2 + m) (l .inv .0 ∙ sym (ap (λ k. bitsFrom 0 (a .id ∷ []) (drop k (take 64 ids))) behind))
+          (c .bit-where .ensures ∙ ap (λ (x : ℕ). cond (eqb x (a .id)) 1 0) (sym (getD-take 64 ids j 0 (omega arith))))
+          ∙ sym (next-place (a .id) (take 64 ids) j h),
       omega arith,
       omega arith,
     )
 
-returns-2 : tie.Need-returns-2 Inv-loop μ-loop
-returns-2 c =
-    let l = c .before in
-    let a = l .before .args in
-    let e : l .loop .j ≡ 64 = omega arith in
-    l .loop .inv .0 ∙ ap (λ k. bitsFrom 0 (a .id ∷ []) (take k (a .ids .now))) e
+returns : tie.Need-returns Inv-loop μ-loop
+returns c =
+    let l = c .before .loop in
+    let a = c .before .before .before .before .args in
+    l .inv .0 ∙ ap (λ (k : ℕ). bitsFrom 0 (a .id ∷ []) (drop k (take 64 (a .ids .now)))) {x = l .j} {y = 0} (omega arith)
 
 pub places-spec : {M : Type 1} → statement M
 places-spec =
@@ -73,13 +87,14 @@ places-spec =
     (tie.spec
     Inv-loop
     μ-loop
+    at-most-64-requires
     loop-holds
-    returns
-    mul-if2
-    shared-slice-read-if2
-    cast-if2
-    shl-bits
-    add-j
+    sub-j
+    mul-bits
+    mul-bit-where
+    shared-slice-read-bit-where
+    bit-where-requires
+    add-bits
     loop-less
     loop-again
-    returns-2)
+    returns)

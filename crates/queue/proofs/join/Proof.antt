@@ -5,7 +5,7 @@ use native.Mathlib.Numerals.{add-one}
 use native.Mathlib.Omega.{arith}
 use lib.ListN.{length, take, set}
 use lib.Seq.{take-suc-set}
-use Rattle.queue.specs.Queue.{entryOf}
+use Rattle.queue.specs.Queue.{entryIn}
 use Rattle.queue.proofs.Queues.{entriesIn, as-many, entries-16, count-is, within, entry-set}
 use borrow.Author.Needs.{needs}
 use Rattle.queue.proofs.join.Statement.{statement}
@@ -42,7 +42,7 @@ returns-2 c =
     let h : q .count < length (entriesIn q) = omega arith in
     let more : q .count + 1 ≤ 16 = omega arith in
     let number = c .before .number in
-    let told : entryOf (number .result) (e .threshold) ≡ e = λ i. record { id = number .ensures .0 i; kill = number .ensures .1 i; threshold = e .threshold } in
+    let told : entryIn (number .result) (e .threshold) ≡ e = λ i. record { id = number .ensures .0 i; kill = number .ensures .1 i; threshold = e .threshold } in
     let joined = entry-set (q .numbers) (q .thresholds) (q .count) (number .result) (e .threshold) (as-many q _ (at .good .0)) ∙ ap (set (entriesIn q) (q .count)) told in (
       λ room. within _ more ∙ ap (take (q .count + 1)) joined ∙ rw (within q (omega arith), add-one, take-suc-set),
       λ full. absurd (omega (arith, full, left, count-is q _ (at .good .0))),
