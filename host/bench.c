@@ -137,6 +137,10 @@ static const char SEVENTEEN[] =
 static void frame_31(void) { message_is("MRCP/02.00 0000000000000000031 ", 0); }
 static void frame_16384(void) { message_is("MRCP/2.0 16384 SPEAK 7\r\n\r\n", 16384); }
 static void read_3(void) { speak_of("", "106", "2"); }
+static void read_folds(void) { /* the same, each value in a second line */
+  message_is("MRCP/2.0 115 SPEAK 7\r\nChannel-Identifier:\r\n " CHANNEL_NAME "\r\n"
+             "Content-Type:\r\n text/plain\r\nContent-Length:\r\n 2\r\n\r\nHi", 0);
+}
 static void read_20(void) { speak_of(SEVENTEEN, "463", "2"); }
 static void read_2(void) { speak_of("", "00112", "00002"); }
 static void read_16000(void) { speak_of("", "16110", "16000"); }
@@ -145,6 +149,7 @@ static void longest_ids(void) {
   for (uint32_t i = 0; i < KLARVESIMO_MOST_HELD; i++) ids[i] = UINT32_MAX - KLARVESIMO_MOST_HELD + i;
 }
 static void call_speak(void) { prepare(0), read_3(); }
+static void call_folds(void) { prepare(0), read_folds(); }
 static void call_stop(void) { prepare(16), request("STOP", 17, "\r\n"); }
 static void call_stop_list(void) {
   prepare(16);
@@ -189,6 +194,7 @@ static const struct bench {
     {"frame-31", frame_31, frames, run_frames},
     {"frame-16384", frame_16384, frames, run_frames},
     {"read-3", read_3, reads, run_reads},
+    {"read-folds", read_folds, reads, run_reads},
     {"read-20", read_20, reads, run_reads},
     {"read-2", read_2, reads, run_reads},
     {"read-16000", read_16000, reads, run_reads},
@@ -196,6 +202,7 @@ static const struct bench {
     {"write-305", longest_ids, responds_longest, run_responds_longest},
     {"call-open", nothing, opens, run_opens},
     {"call-speak", call_speak, handles, run_handles},
+    {"call-folds", call_folds, handles, run_handles},
     {"call-stop-16", call_stop, handles, run_handles},
     {"call-stop-list-16", call_stop_list, handles, run_handles},
     {"call-report-1", one_outstanding, reports, run_reports},

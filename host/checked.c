@@ -51,15 +51,23 @@ struct checked checked_frame(const uint8_t *from, size_t count, uint64_t *number
 
 static int inside(const uint64_t *part, uint64_t size) { return part[0] <= size && part[1] <= size - part[0]; }
 
+static int is_gap(uint8_t byte) { return byte == ' ' || byte == '\t' || byte == '\r' || byte == '\n'; }
+
+/* neither end of a value is a blank, or of a line's end */
+static int is_trimmed(const uint8_t *value, uint64_t size) {
+  return size == 0 || (!is_gap(value[0]) && !is_gap(value[size - 1]));
+}
+
 /* no number leads out of the message or out of its range */
-static int numbers_fit(const uint64_t *out, uint64_t size) {
+static int numbers_fit(const uint8_t *bytes, const uint64_t *out, uint64_t size) {
   int fit = out[KLARVESIMO_KIND] >= KLARVESIMO_REQUEST && out[KLARVESIMO_KIND] <= KLARVESIMO_EVENT &&
             out[KLARVESIMO_STATE] <= KLARVESIMO_COMPLETE && out[KLARVESIMO_STATUS] <= 999 &&
             out[KLARVESIMO_ID] <= UINT32_MAX && out[KLARVESIMO_GOOD] <= 1 && inside(out + KLARVESIMO_NAME, size) &&
             inside(out + KLARVESIMO_BODY, size);
   for (uint64_t f = 0; f < out[KLARVESIMO_FIELDS]; f++) {
     const uint64_t *field = out + KLARVESIMO_HEAD + KLARVESIMO_FIELD_NUMBERS * f;
-    fit &= inside(field + KLARVESIMO_FIELD_NAME, size) && inside(field + KLARVESIMO_FIELD_VALUE, size);
+    fit &= inside(field + KLARVESIMO_FIELD_NAME, size) && inside(field + KLARVESIMO_FIELD_VALUE, size) &&
+           is_trimmed(bytes + field[KLARVESIMO_FIELD_VALUE], field[KLARVESIMO_FIELD_VALUE_LENGTH]);
   }
   return fit;
 }
@@ -73,7 +81,7 @@ static struct checked reads(const uint8_t *bytes, size_t count, size_t room, uin
   if (c.number == 0) {
     if (room < KLARVESIMO_HEAD || out[KLARVESIMO_FIELDS] > KLARVESIMO_MOST_FIELDS) return c;
     written = (size_t)(KLARVESIMO_HEAD + KLARVESIMO_FIELD_NUMBERS * out[KLARVESIMO_FIELDS]);
-    if (written > room || !numbers_fit(out, c.consumed)) return c;
+    if (written > room || c.consumed > count || !numbers_fit(bytes, out, c.consumed)) return c;
   }
   memcpy(numbers, out, written * sizeof *out);
   c.holds = c.consumed == consumed_by(c.number, bytes, count) && lend_untouched(out + written, (room - written) * sizeof *out);

@@ -50,8 +50,8 @@
  *  - arrays of uint64_t aligned to 8 bytes, as C compilers do. Bytes may begin anywhere: on ARM they are also loaded by
  *    words that are not aligned, so the processor must take that: as a Cortex-M4 does unless CCR.UNALIGN_TRP is set,
  *    and a Cortex-A in normal memory unless SCTLR.A is set;
- *  - at most 4 KB of stack. No call takes more of it, whatever is lent, than 3,472 bytes on x86-64, 3,408 on aarch64,
- *    2,864 on arm, 2,936 on thumbv7em; what the functions named above take for themselves comes on top of that;
+ *  - at most 4 KB of stack. No call takes more of it, whatever is lent, than 3,240 bytes on x86-64, 3,264 on aarch64,
+ *    2,872 on arm, 2,936 on thumbv7em; what the functions named above take for themselves comes on top of that;
  *  - on x86-64 the red zone of that ABI: up to 128 bytes below the stack pointer are in use, so what interrupts a call
  *    and runs on its stack must leave them as they are. There is none on ARM;
  *  - floating-point numbers as C begins with them: rounded to nearest, and subnormal ones taken as they are. So it is
@@ -165,11 +165,16 @@ enum {
 
 /* Field f, from 0, has four numbers, at out[KLARVESIMO_HEAD + KLARVESIMO_FIELD_NUMBERS * f] and after. An out shorter
  * than KLARVESIMO_HEAD + KLARVESIMO_FIELD_NUMBERS * fields gets 7; one of KLARVESIMO_MOST never does. Numbers of out
- * past these stay as they were. */
+ * past these stay as they were.
+ *
+ * A field may go on in further lines, each of which begins with a blank: a space or a tab. It is one field, and each
+ * CRLF with the blanks on both sides of it reads as one space. The value is handed back raw, as a part of `bytes`: CR,
+ * LF and blanks may stand inside it, but not at its ends. What the library judges is the value as joined; so whoever
+ * compares or prints one joins it too. */
 enum {
   KLARVESIMO_FIELD_NAME,         /* the place of its name, as written, and the length */
   KLARVESIMO_FIELD_NAME_LENGTH,
-  KLARVESIMO_FIELD_VALUE,        /* the place of its value, without the blanks at both ends, and the length */
+  KLARVESIMO_FIELD_VALUE,        /* the place of its value, without blanks and line ends at its ends, and the length */
   KLARVESIMO_FIELD_VALUE_LENGTH,
   KLARVESIMO_FIELD_NUMBERS,
   KLARVESIMO_MOST_FIELDS = 32,

@@ -38,6 +38,10 @@ fn seventeen() -> String {
         .collect()
 }
 
+/// The SPEAK of T8, each value in a second line.
+const FOLDED: &str = "MRCP/2.0 115 SPEAK 7\r\nChannel-Identifier:\r\n 7f3a@speechsynth\r\n\
+     Content-Type:\r\n text/plain\r\nContent-Length:\r\n 2\r\n\r\nHi";
+
 fn message_of(case: &str) -> Option<Vec<u8>> {
     Some(match case {
         "frame-31" => b"MRCP/02.00 0000000000000000031 ".to_vec(),
@@ -47,6 +51,7 @@ fn message_of(case: &str) -> Option<Vec<u8>> {
             message
         }
         "read-3" => speak_of("", "106", "2"),
+        "read-folds" => FOLDED.into(),
         "read-20" => speak_of(&seventeen(), "463", "2"),
         "read-2" => speak_of("", "00112", "00002"),
         "read-16000" => speak_of("", "16110", "16000"),
@@ -158,6 +163,7 @@ fn call_of(case: &str) -> Option<(Kept, Call)> {
     let message = |name, method, id, rest| Call::Message(request(name, method, id, rest));
     Some(match case {
         "call-speak" => (prepared(0)?, Call::Message(message_of("read-3")?)),
+        "call-folds" => (prepared(0)?, Call::Message(FOLDED.into())),
         "call-stop-16" => (prepared(16)?, message(NAME, "STOP", 17, "\r\n")),
         "call-stop-list-16" => (prepared(16)?, message(NAME, "STOP", 17, list)),
         "call-report-1" => (prepared(1)?, Call::Report(0)),

@@ -1,6 +1,8 @@
-//! Fields: the lines between start line and body.
+//! Fields: the lines between start line and body, each with those that continue it.
 
-use crate::octets::{decimal, is, without_blanks, NAME, VALUE};
+use std::borrow::Cow;
+
+use crate::octets::{decimal, is, line_end, without_blanks, BLANK, NAME, VALUE};
 
 /// "Fields in a message: at most 32."
 pub const MOST_FIELDS: usize = 32;
@@ -50,14 +52,21 @@ impl Known {
 pub struct Field<'a> {
     /// As written in the message.
     pub name: &'a [u8],
-    /// Without the blanks at both ends.
-    pub value: &'a [u8],
+    /// As handed back: raw, "blanks and folds off its ends".
+    pub raw: &'a [u8],
     pub known: Option<Known>,
+}
+
+impl<'a> Field<'a> {
+    /// "Values are judged as joined."
+    pub fn value(&self) -> Cow<'a, [u8]> {
+        joined(self.raw)
+    }
 }
 
 const NO_FIELD: Field = Field {
     name: b"",
-    value: b"",
+    raw: b"",
     known: None,
 };
 
@@ -76,15 +85,15 @@ impl<'a> Fields<'a> {
         &self.list[..self.count]
     }
 
-    /// The value of a known field; none stands twice.
-    pub fn value(&self, wanted: Known) -> Option<&'a [u8]> {
+    /// The value of a known field, as joined; none stands twice.
+    pub fn value(&self, wanted: Known) -> Option<Cow<'a, [u8]>> {
         if self.seen & wanted.bit() == 0 {
             return None;
         }
         self.all()
             .iter()
             .find(|field| field.known == Some(wanted))
-            .map(|field| field.value)
+            .map(Field::value)
     }
 
     /// None: more than 32, or a known name twice.
@@ -107,7 +116,7 @@ impl<'a> Fields<'a> {
     fn length_agrees(&self) -> bool {
         let stated = match self.value(Known::ContentLength) {
             None => Some(0),
-            Some(value) => decimal(value, LENGTH_DIGITS),
+            Some(value) => decimal(&value, LENGTH_DIGITS),
         };
         stated == Some(self.body.len() as u64)
     }
@@ -122,8 +131,9 @@ pub fn read(block: &[u8]) -> Option<Fields<'_>> {
         body: b"",
     };
     let mut rest = block;
+    // "The block still ends at the first empty line."
     while !rest.starts_with(b"\r\n") {
-        let (field, after) = line(rest)?;
+        let (field, after) = field(rest)?;
         fields.add(field)?;
         rest = after;
     }
@@ -131,22 +141,64 @@ pub fn read(block: &[u8]) -> Option<Fields<'_>> {
     fields.length_agrees().then_some(fields)
 }
 
-/// One `name:value` and CRLF, and what comes after. A line that begins with a
-/// blank has no name; a lone CR or LF is no value byte; no CRLF is no line.
-fn line(rest: &[u8]) -> Option<(Field<'_>, &[u8])> {
+/// One `name:value` and CRLF with the lines that continue it, and what comes
+/// after. A continued line before any field has no name; a fold in the name or
+/// behind it comes before the colon; a lone CR or LF is no value byte; no CRLF
+/// is no line.
+fn field(rest: &[u8]) -> Option<(Field<'_>, &[u8])> {
     let colon = rest.iter().position(|&byte| !is(byte, NAME))?;
     if rest[colon] != b':' || colon == 0 || colon > LONGEST_NAME {
         return None;
     }
     let (name, after) = (&rest[..colon], &rest[colon + 1..]);
-    let end = after.iter().position(|&byte| !is(byte, VALUE))?;
-    if !after[end..].starts_with(b"\r\n") {
+    let end = value_end(after)?;
+    let written = &after[..end];
+    if !joined(written).iter().all(|&byte| is(byte, VALUE)) {
         return None;
     }
     let field = Field {
         name,
-        value: without_blanks(&after[..end]),
+        raw: without_folds(written),
         known: Known::of_name(name),
     };
     Some((field, &after[end + 2..]))
+}
+
+/// The place of the first CRLF that no blank follows: a field may "go on in a
+/// line that begins with a blank".
+fn value_end(bytes: &[u8]) -> Option<usize> {
+    let mut at = line_end(bytes)?;
+    while matches!(bytes.get(at + 2), Some(&byte) if is(byte, BLANK)) {
+        at += 2;
+        at += line_end(&bytes[at..])?;
+    }
+    Some(at)
+}
+
+/// "Each CRLF with the blanks on both sides reads as one space"; what stands at
+/// the ends is dropped.
+fn joined(written: &[u8]) -> Cow<'_, [u8]> {
+    if !written.contains(&b'\n') {
+        return Cow::Borrowed(without_blanks(written));
+    }
+    let mut text = Vec::new();
+    let mut rest = written;
+    while let Some(end) = line_end(rest) {
+        text.extend_from_slice(without_blanks(&rest[..end]));
+        text.push(b' ');
+        rest = &rest[end + 2..];
+    }
+    text.extend_from_slice(without_blanks(rest));
+    Cow::Owned(without_blanks(&text).to_vec())
+}
+
+/// "Blanks and folds off its ends", where CR and LF stand in folds alone.
+fn without_folds(written: &[u8]) -> &[u8] {
+    let is_text = |byte: &u8| !is(*byte, BLANK) && !b"\r\n".contains(byte);
+    let first = written.iter().position(is_text);
+    let last = written.iter().rposition(is_text);
+    match (first, last) {
+        (Some(first), Some(last)) => &written[first..=last],
+        _ => &written[..0],
+    }
 }

@@ -7,6 +7,8 @@ mod batch;
 mod conversation;
 mod damage;
 mod draft;
+mod examples;
+mod folds;
 mod random;
 mod request;
 mod unsound;
@@ -27,6 +29,8 @@ pub enum Kind {
     Calls,
     /// Calls on recognizers.
     Recog,
+    /// Fields that go on in further lines, on both and read alone.
+    Folds,
     Write,
     All,
 }
@@ -38,6 +42,7 @@ impl Kind {
             "read" => Some(Kind::Read),
             "calls" => Some(Kind::Calls),
             "recog" => Some(Kind::Recog),
+            "folds" => Some(Kind::Folds),
             "write" => Some(Kind::Write),
             "all" => Some(Kind::All),
             _ => None,
@@ -67,6 +72,7 @@ fn fill(batch: &mut Batch, random: &mut Random, kind: Kind, turn: usize) {
         Kind::Read => wire::reads(batch, random),
         Kind::Calls => conversation::calls(batch, random, Resource::Synthesizer),
         Kind::Recog => conversation::calls(batch, random, Resource::Recognizer),
+        Kind::Folds => folds::calls(batch, random),
         Kind::Write => write::writes(batch, random, turn),
         Kind::All => mixture(batch, random),
     }
@@ -74,10 +80,11 @@ fn fill(batch: &mut Batch, random: &mut Random, kind: Kind, turn: usize) {
 
 /// Some of each kind; a conversation is long, so it is drawn less often.
 fn mixture(batch: &mut Batch, random: &mut Random) {
-    match random.below(10) {
+    match random.below(12) {
         0 | 1 => (0..30).for_each(|_| wire::frames(batch, random)),
         2..=4 => (0..30).for_each(|_| wire::reads(batch, random)),
         5 | 6 => conversation::calls(batch, random, Resource::Recognizer),
+        7 | 8 => (0..10).for_each(|_| folds::calls(batch, random)),
         _ => conversation::calls(batch, random, Resource::Synthesizer),
     }
 }

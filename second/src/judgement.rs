@@ -1,5 +1,7 @@
 //! The order of judgement for a request, in eleven steps.
 
+use std::borrow::Cow;
+
 use crate::channel::{Channel, Held, Kind, State};
 use crate::fields::{self, Field, Fields, Known};
 use crate::framing::Version;
@@ -107,7 +109,7 @@ fn before_the_id_counts<'a>(
     let identifier = fields.value(Known::ChannelIdentifier);
     let identifier = identifier.ok_or(Status::FIELD_MISSING)?;
     // 4
-    if identifier != channel.name.bytes() {
+    if *identifier != *channel.name.bytes() {
         return Err(Status::NO_SUCH_CHANNEL);
     }
     // 5
@@ -147,7 +149,7 @@ fn after_the_id_counts(
     }
     // 11
     let status = success(method, fields);
-    let (state, ids) = act(channel, method, held, list);
+    let (state, ids) = act(channel, method, held, list.as_deref());
     Ok(answer(request, status, state, ids))
 }
 
@@ -200,7 +202,7 @@ fn kill_on_barge_in(method: Option<Method>, fields: &Fields) -> Result<bool, Sta
 fn confidence_threshold(method: Option<Method>, fields: &Fields) -> Result<Level, Status> {
     match fields.value(Known::ConfidenceThreshold) {
         Some(value) if method == Some(Method::Recognize) => {
-            Level::of_value(value).ok_or(Status::ILLEGAL_VALUE)
+            Level::of_value(&value).ok_or(Status::ILLEGAL_VALUE)
         }
         _ => Ok(Level(0)),
     }
@@ -210,12 +212,12 @@ fn confidence_threshold(method: Option<Method>, fields: &Fields) -> Result<Level
 fn active_request_id_list<'a>(
     method: Option<Method>,
     fields: &Fields<'a>,
-) -> Result<Option<&'a [u8]>, Status> {
+) -> Result<Option<Cow<'a, [u8]>>, Status> {
     if method != Some(Method::Stop) {
         return Ok(None);
     }
     match fields.value(Known::ActiveRequestIdList) {
-        Some(value) if !list_of_ids(value).all(|id| id.is_some()) => Err(Status::ILLEGAL_VALUE),
+        Some(value) if !list_of_ids(&value).all(|id| id.is_some()) => Err(Status::ILLEGAL_VALUE),
         list => Ok(list),
     }
 }

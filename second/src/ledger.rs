@@ -2,6 +2,7 @@
 //! is fed the lent input or the report, the number returned and the bytes
 //! written; nothing comes from the stored queue.
 
+use std::borrow::Cow;
 use std::collections::HashSet;
 use std::fmt;
 use std::iter;
@@ -197,7 +198,7 @@ fn answer_of(written: &[u8]) -> Option<(u16, Option<Vec<u32>>)> {
     }
     let list = match listed(&message) {
         None => None,
-        Some(value) => Some(list_of_ids(value).collect::<Option<Vec<u32>>>()?),
+        Some(value) => Some(list_of_ids(&value).collect::<Option<Vec<u32>>>()?),
     };
     match (message.start, message.fields) {
         (StartLine::Response { status, .. }, Some(_)) => Some((status, list)),
@@ -205,6 +206,6 @@ fn answer_of(written: &[u8]) -> Option<(u16, Option<Vec<u32>>)> {
     }
 }
 
-fn listed<'a>(message: &Message<'a>) -> Option<&'a [u8]> {
+fn listed<'a>(message: &Message<'a>) -> Option<Cow<'a, [u8]>> {
     message.fields.as_ref()?.value(Known::ActiveRequestIdList)
 }

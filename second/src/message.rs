@@ -2,6 +2,7 @@
 
 use crate::fields::{self, Fields};
 use crate::framing::{frame, Frame, Version};
+use crate::octets::line_end;
 use crate::refusal::Refusal;
 use crate::start_line::{self, StartLine};
 
@@ -29,14 +30,10 @@ pub fn read(lent: &[u8]) -> Result<Message<'_>, Refusal> {
 
 /// The start line of a frame and the bytes that follow it. None: malformed.
 pub fn start<'a>(frame: &Frame<'a>) -> Option<(StartLine<'a>, &'a [u8])> {
-    // The opening holds neither CR nor LF, so the first CRLF comes after it.
+    // "The line ends at the first CRLF in the frame": the opening holds neither
+    // CR nor LF, so it comes after it.
     let rest = &frame.bytes[frame.opening..];
-    let end = first_line_end(rest)?;
+    let end = line_end(rest)?;
     let start = start_line::read(&rest[..end])?;
     Some((start, &rest[end + 2..]))
-}
-
-/// "The line ends at the first CRLF in the frame."
-fn first_line_end(bytes: &[u8]) -> Option<usize> {
-    bytes.windows(2).position(|pair| pair == b"\r\n")
 }

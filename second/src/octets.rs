@@ -67,6 +67,11 @@ pub fn request_id(digits: &[u8]) -> Option<u32> {
     decimal(digits, 10).and_then(|number| u32::try_from(number).ok())
 }
 
+/// The place of the first CRLF.
+pub fn line_end(bytes: &[u8]) -> Option<usize> {
+    bytes.windows(2).position(|pair| pair == b"\r\n")
+}
+
 /// "Spaces and tabs at both ends are dropped."
 pub fn without_blanks(mut value: &[u8]) -> &[u8] {
     while let [first, rest @ ..] = value {

@@ -224,7 +224,7 @@ fn put_fields(text: &mut Vec<u8>, fields: &Fields) {
         put(text, "field ");
         put_hex(text, field.name);
         text.push(b' ');
-        put_hex(text, field.value);
+        put_hex(text, field.raw);
         text.push(b'\n');
     }
     put(text, "body ");

@@ -257,7 +257,7 @@ fn cause_written(event: &Message) -> String {
         let mut all = fields.all().iter();
         all.find(|field| field.name.eq_ignore_ascii_case(b"Completion-Cause"))
     });
-    named.map_or("no cause".to_string(), |field| readable(field.value))
+    named.map_or("no cause".to_string(), |field| readable(&field.value()))
 }
 
 fn tell_answer(text: &mut String, call: &Call, room: usize) {

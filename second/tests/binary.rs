@@ -346,7 +346,7 @@ fn calls(script: &str) -> usize {
 
 #[test]
 fn what_is_made_is_the_same_each_time_and_plays() {
-    for kind in ["frame", "read", "calls", "recog", "all"] {
+    for kind in ["frame", "read", "calls", "recog", "folds", "all"] {
         for seed in ["0", "1", "2", "77", "18446744073709551615"] {
             let words = ["gen", seed, "3000", kind];
             let made = second(&words, b"");

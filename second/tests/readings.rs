@@ -70,7 +70,7 @@ fn points_7_to_12_fields() {
     let twenty = format!("STOP 9|{{C}}Content-Length:{:020}||", 0);
     let rows: &[(u32, &str, &str)] = &[
         (7, "STOP 9|{C} |", "404 COMPLETE; -"),
-        (7, "STOP 9|{C}\t||", "404 COMPLETE; -"),
+        (7, "STOP 9|\t|{C}|", "404 COMPLETE; -"),
         (7, "STOP 9|{C}X::y:||", "201 COMPLETE; 9"),
         (8, "STOP 9|{C}X:\u{0}||", "404 COMPLETE; -"),
         (8, "STOP 9|{C}Kill-On-Barge-In:\u{7f}||", "404 COMPLETE; -"),

@@ -639,7 +639,8 @@ fn events_are_read_back() {
     for message in second::ledger::messages(&written) {
         let message = message.unwrap();
         let fields = message.fields.unwrap();
-        assert_eq!(fields.value(Known::ChannelIdentifier), Some(RECOGNIZER));
+        let identifier = fields.value(Known::ChannelIdentifier);
+        assert_eq!(identifier.as_deref(), Some(RECOGNIZER));
         assert!(fields.body.is_empty());
         assert_eq!(fields.all().len(), 2);
     }

@@ -81,11 +81,10 @@ fn check_answer(written: &[u8], name: &str, id: u32, list: &str) {
         other => panic!("{other:?}"),
     }
     let fields = message.fields.unwrap();
-    assert_eq!(
-        fields.value(Known::ChannelIdentifier),
-        Some(name.as_bytes())
-    );
+    let identifier = fields.value(Known::ChannelIdentifier);
+    assert_eq!(identifier.as_deref(), Some(name.as_bytes()));
     let expected = (!list.is_empty()).then_some(list.as_bytes());
-    assert_eq!(fields.value(Known::ActiveRequestIdList), expected);
+    let listed = fields.value(Known::ActiveRequestIdList);
+    assert_eq!(listed.as_deref(), expected);
     assert!(fields.body.is_empty());
 }

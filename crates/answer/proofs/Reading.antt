@@ -12,6 +12,7 @@ use Rattle.message.specs.Known.{onceEach, namesOf, valueOf}
 use Rattle.message.specs.Reading.{agrees, judged, fieldsFrom, readFramed, reading, readBytes}
 use Rattle.message.specs.declared.Span.{Span}
 use Rattle.message.specs.declared.Known.the-variants.{ContentLength}
+use Rattle.message.proofs.Theorems.JudgedAlike.{lengths-alike}
 use Rattle.answer.specs.Written.{startText, fieldsText, written}
 use Rattle.answer.specs.Writable.{Writable}
 use Rattle.answer.proofs.Places.{past, part-of, startPlaces, start-back, fieldsPlaces, fields-back}
@@ -28,7 +29,8 @@ nothing-read = refl
 judged-good : (f : List ℕ) (fs : List (Field Span)) (b : ℕ) (texts : List (Field (List ℕ))) (n : ℕ)
     → map (onField (part f)) fs ≡ texts → length f - b ≡ n → onceEach (namesOf texts) ≡ true → agrees (valueOf ContentLength texts) n ≡ true
     → judged f (lines fs b) ≡ good fs (record { start = b; len = n })
-judged-good f fs b texts n e l once fits = rw (e, l, once, fits, judged) (rw l)
+judged-good f fs b texts n e l once fits =
+    rw (e, l, once, lengths-alike (valueOf ContentLength texts) n ∙ fits, judged) (rw l)
 
 module _ (m : Message) where
   -- where the fields begin, and the body

@@ -4,3 +4,4 @@ pub mod ListsReadBack
 pub mod AnswersWritable
 pub mod LongestAnswer
 pub mod WrittenTable
+pub mod ListsJudgedAlike

@@ -8,7 +8,7 @@ use lib.Dec.{leb, eqb, lit≤}
 use lib.ListN.{length}
 use borrow.Author.Tests.{leb-true, le-leb, eqb-true, ne-eqb}
 use Rattle.lists.specs.Lists.{all, run, same}
-use Rattle.octets.specs.Octets.{within, isDigit, isValue, isBlank}
+use Rattle.octets.specs.Octets.{within, isDigit, isValue, isBlank, isGap}
 use Rattle.lists.proofs.Tests.{both}
 use Rattle.lists.proofs.Scans.{all-append, all-of, same-so}
 use Rattle.octets.proofs.Bits.{agree}
@@ -28,6 +28,11 @@ pub record ValueFits (v : List ℕ) : Type 0 where
 abbrev pub isVisible : ℕ → Bool
 isVisible x = within 33 126 x
 
+no-gap : (x : ℕ) → isVisible x ≡ true → isGap x ≡ false
+no-gap x e =
+    let low : 33 ≤ x = leb-true 33 x (both (leb 33 x) (leb x 126) e .0) in
+    rw (ne-eqb x 32 (omega arith), ne-eqb x 9 (omega arith), ne-eqb x 13 (omega arith), ne-eqb x 10 (omega arith))
+
 no-blank : (x : ℕ) → isVisible x ≡ true → isBlank x ≡ false
 no-blank x e =
     let low : 33 ≤ x = leb-true 33 x (both (leb 33 x) (leb x 126) e .0) in
@@ -39,7 +44,7 @@ a-value x e =
     let low : 33 ≤ x = leb-true 33 x (h .0) in
     rw (le-leb 32 x (omega arith), h .1)
 
-kept-visible : (x : ℕ) (l : List ℕ) → isBlank x ≡ false → kept x l ≡ x ∷ l
+kept-visible : (x : ℕ) (l : List ℕ) → isGap x ≡ false → kept x l ≡ x ∷ l
 kept-visible x [] e = rw (e, kept)
 kept-visible x (y ∷ l) e = refl
 
@@ -51,7 +56,7 @@ visible-end : (v : List ℕ) → all isVisible v ≡ true → trimEnd v ≡ v
 visible-end [] a = refl
 visible-end (x ∷ v) a =
     let h = both (isVisible x) (all isVisible v) a in
-    ap (kept x) (visible-end v (h .1)) ∙ kept-visible x v (no-blank x (h .0))
+    ap (kept x) (visible-end v (h .1)) ∙ kept-visible x v (no-gap x (h .0))
 
 pub visible : (v : List ℕ) → all isVisible v ≡ true → ValueFits v
 visible v a = record { values = all-of isVisible isValue a-value v a; front = visible-front v a; end = visible-end v a }

@@ -10,10 +10,11 @@ use lib.ListN.{length, drop}
 use Rattle.message.specs.Message as M
 use Rattle.message.specs.Message.{Fields, bad, good, part, onField}
 use Rattle.message.specs.Fields.{Line, empty, field, Lines, lines, with, goOn, fieldLine, fieldLines}
-use Rattle.message.specs.Known.{knownOf, isKnown, among, onceEach, valueOf}
+use Rattle.message.specs.Known.{knownOf, isKnown, among, onceEach, valueOf, asJoined}
 use Rattle.message.specs.Reading.{agrees, judged}
 use Rattle.message.specs.declared.Span.{Span}
 use Rattle.message.specs.declared.Known.the-variants.{ContentLength}
+use Rattle.message.proofs.Theorems.JudgedAlike.{lengths-alike}
 use Rattle.names.specs.Names.{namesIn}
 use Rattle.names.proofs.Marks.{twice-never}
 
@@ -88,7 +89,10 @@ module _ (f : List ℕ) where
     abbrev choice : Bool → Fields Span
     choice t = elim t [ true ↦ good fs (record { start = b; len = length f - b }) | false ↦ bad ]
 
+    -- Content-Length is judged as joined, and the same as it stands
     pub judged-by : (t : Bool) → agrees (valueOf ContentLength (map (onField (part f)) fs)) (length f - b) ≡ t
         → judged f (lines fs b) ≡ choice t
-    judged-by t e = ap (λ z. choice (z && agrees (valueOf ContentLength (map (onField (part f)) fs)) (length f - b))) o
-        ∙ ap choice e
+    judged-by t e =
+        let given = valueOf ContentLength (map (onField (part f)) fs) in
+        ap (λ z. choice (z && agrees (asJoined given) (length f - b))) o
+        ∙ ap choice (lengths-alike given (length f - b) ∙ e)

@@ -1,5 +1,5 @@
 -- What judgements 1 to 5 come to, one law for each way out. Assumes nothing.
-use Prim.Native.Nat.{ℕ, _≤_}
+use Prim.Native.Nat.{ℕ}
 use mathlib.Core.Path.{_≡_, refl, sym, ap, _∙_}
 use mathlib.Core.Bool.{Bool, true, false, _&&_}
 use mathlib.Core.Option.{none, some}
@@ -9,22 +9,27 @@ use lib.ListN.{length}
 use borrow.Author.Tests.{le-leb}
 use Rattle.lists.specs.Lists.{same}
 use Rattle.message.specs.Message.{Fields}
+use Rattle.message.specs.Folds.{joined}
 use Rattle.message.specs.declared.Known.the-variants.{ChannelIdentifier}
-use Rattle.synth.specs.Channel.{View, firstAbove, withLast}
+use Rattle.synth.specs.Channel.{View, wellNamed, firstAbove, withLast}
 use Rattle.synth.specs.Request.{Request, isGood, acting}
 use Rattle.synth.specs.Judgement.{Verdict, passes, fails, _then_, unless, version, wellFormed, addressed, ours, above, early, late}
 use Rattle.synth.specs.States as S
 use Rattle.synth.specs.declared.Method.{Method}
 use Rattle.synth.specs.declared.LastId.the-variants.{Seen}
+use Rattle.synth.proofs.Theorems.ValuesJudgedAlike.{name-alike}
+use Rattle.channelnames.proofs.Fits.{name-fits}
 use Rattle.header.specs.declared.Header.{Header}
 use Rattle.values.specs.Values.{givenOf}
 use Rattle.request.specs.Telling.{Tells, valueBy}
 use Rattle.outcomes.specs.Outcomes.{asked}
 use Rattle.judgement.specs.Judged.{fromFields}
 
--- a name that fits its array is compared whole
-pub name-told : (v : View) (name x : List ℕ) {b : Bool} → v .name ≡ name → length name ≤ 44 → b ≡ (leb (length name) 44 && same name x) → same (v .name) x ≡ b
-name-told v name x n h e = rw n (sym (e ∙ rw (le-leb (length name) 44 h)))
+-- a well-formed name is compared whole, and with what came as it stands
+pub name-told : (v : View) (name x : List ℕ) {b : Bool} → v .name ≡ name → wellNamed name ≡ true
+    → b ≡ (leb (length name) 44 && same name x) → same (v .name) (joined x) ≡ b
+name-told v name x n h e =
+    rw n (name-alike name h x ∙ sym (e ∙ rw (le-leb (length name) 44 (name-fits name h))))
 
 module _ (v : View) (major minor : ℕ) (m : Method) (id : ℕ) (fs : Fields (List ℕ)) where
   abbrev r : Request

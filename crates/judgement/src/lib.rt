@@ -1,16 +1,18 @@
 // The order of judgement for a request: document 01, "The order of judgement for a request", and document 02,
 // K1. Judgements 6 to 11 are those of each method.
 ghost use mathlib.Core.Path.{_≡_};
-ghost use mathlib.Core.Bool.{_&&_};
+ghost use mathlib.Core.Bool.{true, _&&_};
 ghost use mathlib.Core.Option.{some};
 ghost use mathlib.Core.List.{List};
 ghost use Prim.Native.Nat.{ℕ, _≤_};
 ghost use lib.Dec.{eqb};
 ghost use lib.ListN.{length};
 ghost use Rattle.message.specs.Message.{Fields, part, onFields};
+ghost use Rattle.message.specs.Folds.{joined};
 ghost use Rattle.message.specs.Reading.{fieldsFrom};
 ghost use Rattle.message.specs.declared.Known.the-variants.{ChannelIdentifier};
 ghost use Rattle.synth.specs.Kinds.{kindOf, methodIn};
+ghost use Rattle.synth.specs.Channel.{wellNamed};
 ghost use Rattle.synth.specs.Request.{methodOf, acting};
 ghost use Rattle.synth.specs.Judgement.{_then_, ours, above};
 ghost use Rattle.synth.specs.States.{afterEarly, judge as judged};
@@ -39,8 +41,8 @@ fn is_current(major: u64, minor: u64) -> bool
 
 // 4 and 5, of the Channel-Identifier `v`: it is this channel's name, and the id is above the last one seen.
 fn for_us(last: synth::LastId, name: channelnames::Name, v: &[u8], id: u32) -> values::Verdict
-    ensures { λ o. ⌜ (length (nameOf name) ≤ 44 → Gets (λ v r. ours v r then above v r) last name id
-        (λ r. some (now (v .entry)) ≡ acting ChannelIdentifier r) o) ⌝ }
+    ensures { λ o. ⌜ (wellNamed (nameOf name) ≡ true → Gets (λ v r. ours v r then above v r) last name id
+        (λ r. some (joined (now (v .entry))) ≡ acting ChannelIdentifier r) o) ⌝ }
 {
     if !channelnames::is_name(name, v) {
         return values::Verdict::Fails(answer::Status::no_such_channel());
@@ -59,7 +61,7 @@ fn early(
     h: header::Header,
     id: u32,
 ) -> values::Verdict
-    ensures { λ o. ⌜ (length (nameOf name) ≤ 44
+    ensures { λ o. ⌜ (wellNamed (nameOf name) ≡ true
         → Gets fromFields last name id (λ r. Tells (now (f .entry)) h (r .fields)) o) ⌝ }
 {
     if !h.good {
@@ -82,9 +84,9 @@ fn judge_fields(
     m: synth::Method,
     id: u32,
 ) -> Judged
-    ensures { λ j. ⌜ (kind ≡ kindOf (nameOf (c .name)) → length (nameOf (c .name)) ≤ 44
-        → length (listOf (c .queue)) ≤ 16 → (major minor : ℕ) (fs : Fields (List ℕ)) → Tells (now (f .entry)) h fs → (let v = view last c in
-        let r = asked major minor m id fs in Judges v j (afterEarly (fromFields v r) v r))) ⌝ }
+    ensures { λ j. ⌜ (kind ≡ kindOf (nameOf (c .name)) → wellNamed (nameOf (c .name)) ≡ true
+        → length (listOf (c .queue)) ≤ 16 → (major minor : ℕ) (fs : Fields (List ℕ)) → Tells (now (f .entry)) h fs
+        → (let v = view last c in let r = asked major minor m id fs in Judges v j (afterEarly (fromFields v r) v r))) ⌝ }
 {
     let name = c.name;
     let state = c.state;
@@ -103,8 +105,8 @@ fn judge_fields(
     }
 }
 
-// 1 to 11, of the request `id` in the frame `f`, whose method stands at `name` and whose fields begin at `at`. Arrays
-// hold a name of 44 bytes and 16 outstanding, so of a channel with more, which is not sound, nothing is said.
+// 1 to 11, of the request `id` in the frame `f`, whose method stands at `name` and whose fields begin at `at`. Of a
+// channel with a malformed name or more than 16 outstanding, which is not sound, nothing is said.
 pub fn judge(
     last: synth::LastId,
     c: channel::Channel,
@@ -115,7 +117,7 @@ pub fn judge(
     name: message::Span,
     id: u32,
 ) -> Judged
-    ensures { λ j. ⌜ (length (nameOf (c .name)) ≤ 44 → length (listOf (c .queue)) ≤ 16 → Judges (view last c) j
+    ensures { λ j. ⌜ (wellNamed (nameOf (c .name)) ≡ true → length (listOf (c .queue)) ≤ 16 → Judges (view last c) j
         (judged (view last c) (asked major minor (methodIn (kindOf (nameOf (c .name)))
         (methodOf (part (now (f .entry)) name))) id (onFields (part (now (f .entry))) (fieldsFrom (now (f .entry)) at))))) ⌝ }
 {

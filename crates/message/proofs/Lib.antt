@@ -1,4 +1,8 @@
 pub mod StartLine
+pub mod Folds
+pub mod Gapless
+pub mod Trimming
+pub mod Values
 pub mod Rows
 pub mod Says
 pub mod Parts

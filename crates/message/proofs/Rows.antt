@@ -11,12 +11,14 @@ use lib.Dec.{leb, ltb}
 use lib.ListN.{length, take, drop, length-drop}
 use borrow.Author.Tests.{ltb-true, leb-true}
 use Rattle.lists.specs.Lists.{all, run, All}
-use Rattle.octets.specs.Octets.{isName, isValue, isBlank}
-use Rattle.readers.specs.Words.{line}
+use Rattle.octets.specs.Octets.{isName, isValue, isGap}
+use Rattle.readers.specs.Words.{isCrlf}
 use Rattle.lists.proofs.Tests.{both}
-use Rattle.readers.proofs.Cuts.{Cut, line-cut, line-length}
+use Rattle.readers.proofs.Cuts.{Cut, is-crlf, line-length}
 use Rattle.message.specs.Message.{Field}
-use Rattle.message.specs.Fields.{kept, trimEnd, trimmed, Line, empty, field, isPlain, fieldAt, lineAt, fieldLine}
+use Rattle.message.specs.Fields.{kept, trimEnd, trimmed, Line, empty, field, isPlain, fieldAt, rawAt, fieldLine}
+use Rattle.message.specs.Folds.{raw, joined}
+use Rattle.message.proofs.Folds.{raw-cut}
 use Rattle.message.specs.Fields.{Lines, lines, with, goOn, fieldLines}
 use Rattle.message.specs.declared.Span.{Span}
 
@@ -42,9 +44,9 @@ run-most test (x ∷ l) = go (run-most test l) (test x) refl
     go h false e = rw (e, run) (omega arith)
 
 kept-most : (x : ℕ) (l : List ℕ) → length (kept x l) ≤ suc (length l)
-kept-most x [] = go (isBlank x) refl
+kept-most x [] = go (isGap x) refl
   where
-    go : (b : Bool) → isBlank x ≡ b → length (kept x []) ≤ 1
+    go : (b : Bool) → isGap x ≡ b → length (kept x []) ≤ 1
     go true e = rw (e, kept) (omega arith)
     go false e = rw (e, kept) (omega arith)
 kept-most x (y ∷ l) = omega arith
@@ -55,8 +57,8 @@ trim-most (x ∷ l) = omega (arith, trim-most l, kept-most x (trimEnd l))
 
 trimmed-in : (at : ℕ) (v : List ℕ) → (at ≤ trimmed at v .start) × (trimmed at v .start + trimmed at v .len ≤ at + length v)
 trimmed-in at v =
-    let b = run isBlank v in
-    omega (arith, run-most isBlank v, trim-most (drop b v), length-drop b v)
+    let b = run isGap v in
+    omega (arith, run-most isGap v, trim-most (drop b v), length-drop b v)
 
 -- a name of 1 to 64 bytes
 abbrev pub NameFits : Field Span → Type 0
@@ -71,7 +73,7 @@ Row at n (field x next) = Rows at (x ∷ []) next × (next ≤ n) × NameFits x
 field-at : (at k n : ℕ) (l : List ℕ) → at + length l + 2 ≤ n → Row at n (fieldAt at k l)
 field-at at k n l h = go _ refl
   where
-    go : (t : Bool) → (ltb k (length l) && leb 1 k && leb k 64 && all isName (take k l) && all isValue (drop (suc k) l)) ≡ t
+    go : (t : Bool) → (ltb k (length l) && leb 1 k && leb k 64 && all isName (take k l) && all isValue (joined (drop (suc k) l))) ≡ t
         → Row at n (fieldAt at k l)
     go true e = rw (e, fieldAt) (
         let (upper, most) = both _ _ (both _ _ (both _ _ e .0) .0) in
@@ -79,15 +81,18 @@ field-at at k n l h = go _ refl
         omega (arith, ltb-true k (length l) inside, leb-true 1 k least, leb-true k 64 most, trimmed-in (at + k + 1) (drop (suc k) l), length-drop (suc k) l))
     go false e = rw (e, fieldAt) tt
 
-line-at : (at : ℕ) (s : List ℕ) (r : Option (List ℕ)) → Cut (drop at s) r → Row at (length s) (lineAt at r)
-line-at at s none h = tt
-line-at at s (some []) h = omega (arith, line-length (drop at s) [] h, length-drop at s)
-line-at at s (some (x ∷ l)) h =
-    field-at at (run isPlain (x ∷ l)) (length s) (x ∷ l) (omega (arith, line-length (drop at s) (x ∷ l) h, length-drop at s))
+raw-at : (at : ℕ) (s : List ℕ) (r : Option (List ℕ)) → Cut (drop at s) r → Row at (length s) (rawAt at r)
+raw-at at s none h = tt
+raw-at at s (some l) h =
+    field-at at (run isPlain l) (length s) l (omega (arith, line-length (drop at s) l h, length-drop at s))
 
 pub field-line : (at : ℕ) (s : List ℕ) → Row at (length s) (fieldLine at (drop at s))
 unfolding fieldLine
-field-line at s = line-at at s (line (drop at s)) (line-cut (drop at s))
+field-line at s = go (isCrlf (drop at s)) refl
+  where
+    go : (b : Bool) → isCrlf (drop at s) ≡ b → Row at (length s) (fieldLine at (drop at s))
+    go true e = rw (e, fieldLine) (omega (arith, line-length (drop at s) [] (is-crlf (drop at s) e), length-drop at s))
+    go false e = rw (e, fieldLine) (raw-at at s (raw (drop at s)) (raw-cut (drop at s)))
 
 -- at most m fields, from `at` on in n bytes
 abbrev pub Laid : ℕ → ℕ → ℕ → Lines → Type 0

@@ -17,12 +17,13 @@ use Rattle.message.specs.Message.{Start, request, response, event, Field
 use Rattle.message.specs.Message.{InRange, part, onField, onReading}
 use Rattle.message.specs.StartLines.{Started, started, startLine}
 use Rattle.message.specs.Fields.{Lines, lines, fieldLines}
-use Rattle.message.specs.Known.{onceEach, namesOf, valueOf}
+use Rattle.message.specs.Known.{onceEach, namesOf, judgedValue}
 use Rattle.message.specs.Reading.{agrees, judged, fieldsFrom, readFrom, readFramed, reading, readBytes}
 use Rattle.message.specs.declared.Span.{Span}
 use Rattle.message.specs.declared.Known.the-variants.{ContentLength}
 use Rattle.message.proofs.StartLine.{Named, Begun, start-line}
 use Rattle.message.proofs.Rows.{Rows, NameFits, Laid, laid}
+use Rattle.message.proofs.Values.{Hold, hold}
 
 -- fields from `at` on in a frame f, and a body, that judgement 2 lets pass
 pub record Passed (f : List ℕ) (at : ℕ) (fs : List (Field Span)) (body : Span) : Type 0 where
@@ -31,29 +32,30 @@ pub record Passed (f : List ℕ) (at : ℕ) (fs : List (Field Span)) (body : Spa
   pub few : length fs ≤ 32
   pub names : All NameFits fs
   pub once : onceEach (namesOf (map (onField (part f)) fs)) ≡ true
-  pub agreed : agrees (valueOf ContentLength (map (onField (part f)) fs)) (body .len) ≡ true
+  pub agreed : agrees (judgedValue ContentLength (map (onField (part f)) fs)) (body .len) ≡ true
+  pub values : Hold f (lines fs (body .start))
 
 abbrev pub Judged : List ℕ → ℕ → Fields Span → Type 0
 Judged f at bad = Unit {0}
 Judged f at (good fs body) = Passed f at fs body
 
-judged-lines : (f : List ℕ) (at : ℕ) (l : Lines) → Laid 32 at (length f) l → Judged f at (judged f l)
-judged-lines f at Lines.malformed h = tt
-judged-lines f at (lines fs b) (r, l, n, names) = go (onceIn && agreesIn) refl
+judged-lines : (f : List ℕ) (at : ℕ) (l : Lines) → Laid 32 at (length f) l → Hold f l → Judged f at (judged f l)
+judged-lines f at Lines.malformed h v = tt
+judged-lines f at (lines fs b) (r, l, n, names) v = go (onceIn && agreesIn) refl
   where
     onceIn : Bool
     onceIn = onceEach (namesOf (map (onField (part f)) fs))
 
     agreesIn : Bool
-    agreesIn = agrees (valueOf ContentLength (map (onField (part f)) fs)) (length f - b)
+    agreesIn = agrees (judgedValue ContentLength (map (onField (part f)) fs)) (length f - b)
 
     go : (t : Bool) → (onceIn && agreesIn) ≡ t → Judged f at (judged f (lines fs b))
-    go true e = rw (e, judged) (let (o, a) = both onceIn agreesIn e in record { rows = r; ends = omega arith; few = n; names = names; once = o; agreed = a })
+    go true e = rw (e, judged) (let (o, a) = both onceIn agreesIn e in record { rows = r; ends = omega arith; few = n; names = names; once = o; agreed = a; values = v })
     go false e = rw (e, judged) tt
 
 pub fields-from : (f : List ℕ) (at : ℕ) → Judged f at (fieldsFrom f at)
 unfolding fieldsFrom
-fields-from f at = judged-lines f at (fieldLines 32 f at) (laid 32 f at)
+fields-from f at = judged-lines f at (fieldLines 32 f at) (laid 32 f at) (hold f 32 at)
 
 -- a message with an opening of k bytes, and fields from `at` on
 pub record Says (s : List ℕ) (h : Head) (st : Start Span) (fs : Fields Span) : Type 0 where

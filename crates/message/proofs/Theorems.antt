@@ -1,6 +1,10 @@
 pub mod LineTable
+pub mod FoldTable
 pub mod PartsInOrder
 pub mod Judgement2
 pub mod IdsInRange
 pub mod ReadAlone
 pub mod StartGrammar
+pub mod JudgedAlike
+pub mod Ends
+pub mod AsBefore

@@ -12,7 +12,7 @@ use Rattle.framing.specs.declared.Framing.the-variants.{More, NoMessage, TooLon
 use Rattle.message.specs.Message.{Field, Fields, bad, good, fieldsIn, Head, Reading, refused, message, Message, part, onField, onReading}
 use Rattle.message.specs.StartLines.{Started, started, startLine}
 use Rattle.message.specs.Fields.{Lines, lines, fieldLines}
-use Rattle.message.specs.Known.{onceEach, namesOf, valueOf}
+use Rattle.message.specs.Known.{onceEach, namesOf, judgedValue}
 use Rattle.message.specs.declared.Span.{Span}
 use Rattle.message.specs.declared.Known.the-variants.{ContentLength}
 
@@ -26,7 +26,7 @@ abbrev pub judged : List ℕ → Lines → Fields Span
 judged f Lines.malformed = bad
 judged f (lines fs b) =
     let texts : List (Field (List ℕ)) = map (onField (part f)) fs in
-    elim (onceEach (namesOf texts) && agrees (valueOf ContentLength texts) (length f - b)) [
+    elim (onceEach (namesOf texts) && agrees (judgedValue ContentLength texts) (length f - b)) [
       | true ↦ good fs (record { start = b; len = length f - b })
       | false ↦ bad
     ]

@@ -1,6 +1,6 @@
 -- STOP and BARGE-IN-OCCURRED: which of the ids held the list names, and what ends. Assumes nothing.
 use Prim.Native.Nat.{ℕ, _≤_, _<_}
-use mathlib.Core.Path.{_≡_, refl, sym, ap, _∙_}
+use mathlib.Core.Path.{_≡_, refl, sym, ap, ap₂, _∙_}
 use mathlib.Core.Bool.{Bool, true, false}
 use mathlib.Core.Option.{none, some}
 use mathlib.Core.List.{List, [], _∷_}
@@ -11,7 +11,9 @@ use lib.Seq.{take-all}
 use borrow.Author.Tests.{leb-true, leb-false}
 use Rattle.lists.specs.Lists.{keep}
 use Rattle.message.specs.declared.RequestState.the-variants.{Complete}
+use Rattle.message.specs.Folds.{joined}
 use Rattle.answer.specs.IdList.{isIdList, idsOf}
+use Rattle.answer.proofs.Theorems.ListsJudgedAlike.{lists-alike, ids-alike}
 use Rattle.idlist.specs.Named.{bitsFrom, namedIn}
 use Rattle.idlist.specs.declared.Which.{Which}
 use Rattle.synth.specs.Channel.{View, withQueue, ids}
@@ -38,6 +40,19 @@ held-few queue l e = go (leb (length queue) 16) refl
     go : (b : Bool) → leb (length queue) 16 ≡ b → l .count ≤ 16
     go true t = e .0 (leb-true (length queue) 16 t) .few
     go false t = rw (e .1 (leb-false (length queue) 16 t)) (omega arith)
+
+-- a list names the same as it stands and as it is judged
+pub named-joined : (list held : List ℕ) → namedIn list held ≡ namedIn (joined list) held
+unfolding namedIn
+named-joined list held = go (isIdList list) refl
+  where
+    by : Bool → List ℕ → Which
+    by b ids = elim b [ true ↦ Which.Those (bitsFrom 0 ids (take 64 held)) | false ↦ Which.Illegal ]
+
+    go : (b : Bool) → isIdList list ≡ b
+        → by (isIdList list) (idsOf list) ≡ by (isIdList (joined list)) (idsOf (joined list))
+    go true e = sym (ap₂ by (lists-alike list) (ids-alike list e))
+    go false e = ap (λ b. by b (idsOf list)) e ∙ sym (ap (λ b. by b (idsOf (joined list))) (lists-alike list ∙ e))
 
 -- what the list says of the ids held
 module _ (list held : List ℕ) where

@@ -4,6 +4,7 @@ ghost use mathlib.Core.Path.{_≡_};
 ghost use mathlib.Core.Option.{some};
 ghost use Prim.Native.Nat.{_≤_};
 ghost use lib.ListN.{length};
+ghost use Rattle.message.specs.Folds.{joined};
 ghost use Rattle.message.specs.declared.Known.the-variants.{ActiveRequestIdList};
 ghost use Rattle.synth.specs.Request.{acting, ignoresAny};
 ghost use Rattle.synth.specs.declared.Method.{Method};
@@ -31,7 +32,7 @@ fn stop_named(
     ignored: bool,
 ) -> outcomes::Outcome
     ensures { λ o. ⌜ (length (listOf q) ≤ 16 → Acts state q Method.Stop id
-        (λ r. (ignored ≡ ignoresAny r) × (some (now (v .entry)) ≡ acting ActiveRequestIdList r)) o) ⌝ }
+        (λ r. (ignored ≡ ignoresAny r) × (some (joined (now (v .entry))) ≡ acting ActiveRequestIdList r)) o) ⌝ }
 {
     let held = queue::list_held(q);
     let ids = held.ids;

@@ -6,7 +6,7 @@ use native.Mathlib.Nat.{add-zero, zero-add, add-suc, suc-add, le-of-suc-le-suc, 
 use lib.Bits.{bitAnd}
 use lib.Dec.{eqb}
 use lib.ListN.{getD}
-use Rattle.octets.specs.Octets.{from, classes, classOf, isDigit, isCapital, isName, isValue, isBlank, Stands}
+use Rattle.octets.specs.Octets.{from, classes, classOf, isDigit, isCapital, isName, isValue, isBlank, isGap, Stands}
 
 module _ {A : Type 0} (f : ℕ → A) (d : A) where
   at-from : (n i k : ℕ) → k < n → getD (from f i n) k d ≡ f (i + k)
@@ -45,3 +45,6 @@ value-bit = by-class 8 isValue refl
 
 pub blank-bit : Stands 16 isBlank
 blank-bit = by-class 16 isBlank refl
+
+pub gap-bit : Stands 32 isGap
+gap-bit = by-class 32 isGap refl

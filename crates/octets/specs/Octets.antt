@@ -47,10 +47,14 @@ isValue b = within 32 126 b || eqb b 9 || within 128 255 b
 abbrev pub isBlank : ℕ → Bool
 isBlank b = eqb b 32 || eqb b 9
 
--- what a byte may be, a bit for each: digit, capital, name byte, value byte, blank
+-- what blanks and folds are made of: space, tab, CR and LF
+abbrev pub isGap : ℕ → Bool
+isGap b = isBlank b || eqb b 13 || eqb b 10
+
+-- what a byte may be, a bit for each: digit, capital, name byte, value byte, blank, gap
 abbrev pub classOf : ℕ → ℕ
 classOf b = cond (isDigit b) 1 0 + cond (isCapital b) 2 0 + cond (isName b) 4 0 + cond (isValue b) 8 0 + cond
-    (isBlank b) 16 0
+    (isBlank b) 16 0 + cond (isGap b) 32 0
 
 -- a capital as its small letter, any other byte as it is
 abbrev pub lowered : ℕ → ℕ

@@ -18,6 +18,8 @@ pub const VALUE: u8 = 8;
 
 pub const BLANK: u8 = 16;
 
+pub const GAP: u8 = 32;
+
 // What each of the 256 bytes may be, as the sum of these bits.
 const CLASS: [u8; 256] = [
     0,
@@ -29,14 +31,11 @@ const CLASS: [u8; 256] = [
     0,
     0,
     0,
-    24, // HT
-    0, // LF
+    56, // HT
+    32, // LF
     0,
     0,
-    0, // CR
-    0,
-    0,
-    0,
+    32, // CR
     0,
     0,
     0,
@@ -52,7 +51,10 @@ const CLASS: [u8; 256] = [
     0,
     0,
     0,
-    24, // SP
+    0,
+    0,
+    0,
+    56, // SP
     8,
     8,
     8,

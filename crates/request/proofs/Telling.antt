@@ -13,7 +13,7 @@ use lib.ListN.{length, getD, replicate, length-take, length-drop}
 use borrow.Author.Tests.{eq-eqb, ne-eqb}
 use Rattle.lists.specs.Lists.{all, isEmpty, bit}
 use Rattle.message.specs.Message.{Field, Fields, bad, good, fieldsIn, part, onField, onFields}
-use Rattle.message.specs.Known.{indexOf, isKnown, onceEach, namesOf, valueOf}
+use Rattle.message.specs.Known.{indexOf, isKnown, onceEach, namesOf, valueOf, asJoined, judgedValue}
 use Rattle.message.specs.declared.Span.{Span}
 use Rattle.message.specs.declared.Known.{Known}
 use Rattle.message.specs.declared.Known.the-variants.{ChannelIdentifier, ContentLength, ContentType}
@@ -66,7 +66,7 @@ module _ (f : List ℕ) where
 
   by-place : (p : Span) (t : Bool)
       → givenOf f (elim (not t) [ true ↦ Given.At p | false ↦ Given.Nothing ])
-      ≡ elim t [ true ↦ none | false ↦ some (part f p) ]
+      ≡ asJoined (elim t [ true ↦ none | false ↦ some (part f p) ])
   by-place p true = refl
   by-place p false = refl
 
@@ -79,12 +79,12 @@ module _ (f : List ℕ) where
     abbrev h : Header
     h = headerOf f (good fs body)
 
-    valued : (k : Known) → isKnown k ≡ true → givenOf f (valueBy h k) ≡ valueOf k (map (onField (part f)) fs)
+    valued : (k : Known) → isKnown k ≡ true → givenOf f (valueBy h k) ≡ judgedValue k (map (onField (part f)) fs)
     valued k known =
         let p : Span = getD (h .values) (indexOf k) nowhere in
         ap (λ b. givenOf f (givenBy (h .mask) b p)) (own-bit k known)
         ∙ by-place p (eqb (bitAnd (h .mask) (knownBit k)) 0)
-        ∙ sym (value-by-mask f fs body once k known)
+        ∙ sym (ap asJoined (value-by-mask f fs body once k known))
 
     something : Tells f h (onFields (part f) (good fs body))
     something = record {

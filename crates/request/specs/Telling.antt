@@ -7,7 +7,7 @@ use lib.Dec.{eqb}
 use lib.ListN.{getD}
 use Rattle.lists.specs.Lists.{all, isEmpty, bit}
 use Rattle.message.specs.Message.{Fields, fieldsIn}
-use Rattle.message.specs.Known.{indexOf, isKnown, namesOf, valueOf}
+use Rattle.message.specs.Known.{indexOf, isKnown, namesOf, judgedValue}
 use Rattle.message.specs.Reading.{bodyIn}
 use Rattle.message.specs.declared.Known.{Known}
 use Rattle.names.specs.Names.{bitOf}
@@ -25,6 +25,6 @@ valueBy h k = givenBy (h .mask) (bitOf k) (getD (h .values) (indexOf k) nowhere)
 -- what a header tells of the fields fs, whose frame is f
 pub record Tells (f : List ℕ) (h : Header) (fs : Fields (List ℕ)) : Type 0 where
   pub good : h .good ≡ isGood fs
-  pub value : (k : Known) → isKnown k ≡ true → givenOf f (valueBy h k) ≡ valueOf k (fieldsIn fs)
+  pub value : (k : Known) → isKnown k ≡ true → givenOf f (valueBy h k) ≡ judgedValue k (fieldsIn fs)
   pub body : eqb (h .body .len) 0 ≡ isEmpty (bodyIn fs)
   pub names : (set : ℕ) → meets (h .mask) set ≡ not (all (λ k. not (bit set (indexOf k))) (namesOf (fieldsIn fs)))

@@ -11,7 +11,7 @@ use borrow.Author.Tests.{leb-true, leb-false, lt-ltb, le-ltb}
 use Rattle.octets.specs.Octets.{bytes, alike}
 use Rattle.lists.specs.Lists.{isEmpty}
 use Rattle.message.specs.Message.{Fields, fieldsIn}
-use Rattle.message.specs.Known.{valueOf}
+use Rattle.message.specs.Known.{judgedValue}
 use Rattle.message.specs.Reading.{bodyIn}
 use Rattle.message.specs.declared.Known.the-variants.{ContentLength, ContentType, KillOnBargeIn, ConfidenceThreshold}
 use Rattle.message.specs.declared.RequestState.the-variants.{Pending, InProgress}
@@ -154,11 +154,11 @@ module _ (v : View) (major minor : ℕ) (m : Method) (id : ℕ) (fs : Fields (Li
     -- judgement 9 by what a header tells
     module _ where
       abbrev typed : Bool → Option (List ℕ)
-      typed b = elim b [ true ↦ valueOf ContentType (fieldsIn fs) | false ↦ none ]
+      typed b = elim b [ true ↦ judgedValue ContentType (fieldsIn fs) | false ↦ none ]
 
       abbrev ruled : Bool → Option (List ℕ) → Verdict
       ruled b media = elim b [
-        | true ↦ unless (given anything (valueOf ContentLength (fieldsIn fs)) && given anything media) 406
+        | true ↦ unless (given anything (judgedValue ContentLength (fieldsIn fs)) && given anything media) 406
             then unless (not (isEmpty (bodyIn fs))) 408
             then unless (given (isTypeOf m) media) 409
         | false ↦ passes

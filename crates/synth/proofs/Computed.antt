@@ -11,6 +11,7 @@ use Rattle.writers.specs.SelfLength.{selfLength}
 use Rattle.framing.specs.Framing.{opening, framing}
 use Rattle.message.specs.Message.{Start, request, response, event, Field, Reading, Message}
 use Rattle.message.specs.StartLines.{startLine}
+use Rattle.message.specs.Folds.{raw, joined}
 use Rattle.message.specs.Fields.{fieldLine}
 use Rattle.message.specs.Known.{knownOf, valueOf}
 use Rattle.message.specs.Reading.{fieldsFrom, reading, readBytes, messagesIn}
@@ -32,12 +33,12 @@ use Rattle.synth.specs.Calls.{Call, Reply, input, report, deliver, repor
 
 -- what a reader hears of bytes, and of a text
 unfoldable pub hearsBytes : List ℕ → Reading (List ℕ)
-unfolding readBytes reading framing opening startLine fieldLine fieldsFrom knownOf valueOf
+unfolding readBytes reading framing opening startLine raw joined fieldLine fieldsFrom knownOf valueOf
 hearsBytes s = readBytes s
 
 -- the messages that stand end to end in what was written
 unfoldable pub hearsAll : List ℕ → List Message
-unfolding messagesIn readBytes reading framing opening startLine fieldLine fieldsFrom knownOf valueOf
+unfolding messagesIn readBytes reading framing opening startLine raw joined fieldLine fieldsFrom knownOf valueOf
 hearsAll w = messagesIn (length w) w
 
 abbrev pub hears : String → Reading (List ℕ)
@@ -81,20 +82,20 @@ abbrev pub reports : ℕ → ℕ → Call
 reports cause score = record { lent = report cause (single score); room = 1250 }
 
 unfoldable pub replies : View → List Call → List Reply
-unfolding readBytes reading framing opening startLine fieldLine fieldsFrom knownOf valueOf startText fieldText fieldsText afterLength written writtenAll
+unfolding readBytes reading framing opening startLine raw joined fieldLine fieldsFrom knownOf valueOf startText fieldText fieldsText afterLength written writtenAll
     digits digitsWithin threeDigits selfLength isIdList idsOf behindCommas idListText A.response complete quotient level levelIn div ofInt round units odd size climb span lt isNan toBits ofBits kindOf wellNamed sound methodOf acting
     ignoresAny _then_ unless version wellFormed addressed ours above legal ofKind valid content capacity success early late act judge deliver reported call
 replies v calls = map (λ (x : Exchange Call Reply). x .reply) (trace call v calls)
 
 -- what a request comes to
 unfoldable pub judges : View → Request → Outcome
-unfolding knownOf valueOf digits digitsWithin isIdList idsOf behindCommas idListText A.response quotient level levelIn div ofInt round units odd size climb span toBits kindOf acting ignoresAny _then_ unless version wellFormed addressed ours
+unfolding joined knownOf valueOf digits digitsWithin isIdList idsOf behindCommas idListText A.response quotient level levelIn div ofInt round units odd size climb span toBits kindOf acting ignoresAny _then_ unless version wellFormed addressed ours
     above legal ofKind valid content capacity success early late act judge
 judges v r = judge v r
 
 -- the channel after the calls
 unfoldable pub leaves : View → List Call → View
-unfolding readBytes reading framing opening startLine fieldLine fieldsFrom knownOf valueOf startText fieldText fieldsText afterLength written writtenAll
+unfolding readBytes reading framing opening startLine raw joined fieldLine fieldsFrom knownOf valueOf startText fieldText fieldsText afterLength written writtenAll
     digits digitsWithin threeDigits selfLength isIdList idsOf behindCommas idListText A.response complete quotient level levelIn div ofInt round units odd size climb span lt isNan toBits ofBits kindOf wellNamed sound methodOf acting
     ignoresAny _then_ unless version wellFormed addressed ours above legal ofKind valid content capacity success early late act judge deliver reported call
 leaves v calls = after call v calls

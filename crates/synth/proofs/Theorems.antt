@@ -6,6 +6,7 @@ pub mod Recognitions
 pub mod Thresholds
 pub mod Scores
 pub mod Readings
+pub mod Folds
 pub mod HandledCalls
 pub mod OneResponse
 pub mod Statuses
@@ -15,3 +16,4 @@ pub mod Room
 pub mod OnlyResume
 pub mod Demand3
 pub mod LedgerRules
+pub mod ValuesJudgedAlike

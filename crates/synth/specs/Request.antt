@@ -8,7 +8,7 @@ use lib.Dec.{eqb}
 use Rattle.lists.specs.Lists.{all, same}
 use Rattle.octets.specs.Octets.{bytes}
 use Rattle.message.specs.Message.{Fields, bad, good, fieldsIn, Head}
-use Rattle.message.specs.Known.{among, namesOf, valueOf}
+use Rattle.message.specs.Known.{among, namesOf, judgedValue}
 use Rattle.message.specs.declared.Known.{Known}
 use Rattle.message.specs.declared.Known.the-variants.{ChannelIdentifier, ContentLength, ContentType, ActiveRequestIdList, KillOnBargeIn, ProxySyncId, LoggingTag, Unknown, ConfidenceThreshold}
 use Rattle.answer.specs.declared.Kind.{Kind}
@@ -91,9 +91,9 @@ abbrev pub isGood : Fields (List ℕ) → Bool
 isGood bad = false
 isGood (good fs body) = true
 
--- the value of a field that acts in the request's method, where it came
+-- the value of a field that acts in the request's method, as it is judged, where it came
 unfoldable pub acting : Known → Request → Option (List ℕ)
-acting k r = elim (acts (r .method) k) [ true ↦ valueOf k (fieldsIn (r .fields)) | false ↦ none ]
+acting k r = elim (acts (r .method) k) [ true ↦ judgedValue k (fieldsIn (r .fields)) | false ↦ none ]
 
 -- a field was ignored
 unfoldable pub ignoresAny : Request → Bool

@@ -4,11 +4,13 @@ use mathlib.Core.Path.{_≡_, sym, ap, _∙_}
 use mathlib.Core.Bool.{Bool, not}
 use mathlib.Core.List.{List}
 use Prim.Native.Nat.{ℕ}
+use lib.Dec.{eqb}
 use borrow.Author.Tests.{eq-eqb, ne-eqb}
 use Rattle.message.specs.Message.{part}
 use Rattle.message.specs.declared.Span.{Span}
 use Rattle.synth.specs.Judgement.{fails, unless, _then_, isTypeOf}
 use Rattle.synth.specs.declared.Method.{Method}
+use Rattle.synth.proofs.Theorems.ValuesJudgedAlike.{types-alike}
 use Rattle.values.specs.Values.{givenOf, typedContent, contentBy}
 use Rattle.values.specs.declared.Given.{Given}
 
@@ -35,4 +37,6 @@ module _ (m : Method) (f : List ℕ) (length media : Given) (body : ℕ) where
   pub with-both : (p q : Span) → length ≡ Given.At p → media ≡ Given.At q
       → typedContent m (part f q) body ≡ contentBy m (givenOf f length) (givenOf f media) body
   unfolding unless _then_
-  with-both p q e d = sym (λ z. contentBy m (givenOf f (e z)) (givenOf f (d z)) body)
+  with-both p q e d =
+      ap (λ b. unless (not (eqb body 0)) 408 then unless b 409) (sym (types-alike m (part f q)))
+      ∙ sym (λ z. contentBy m (givenOf f (e z)) (givenOf f (d z)) body)

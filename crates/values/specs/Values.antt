@@ -6,6 +6,7 @@ use mathlib.Core.List.{List}
 use lib.Dec.{eqb}
 use Rattle.octets.specs.Octets.{bytes, alike}
 use Rattle.message.specs.Message.{part}
+use Rattle.message.specs.Folds.{joined}
 use Rattle.synth.specs.Judgement as J
 use Rattle.synth.specs.Judgement.{passes, fails, _then_, unless, given, anything, isTypeOf}
 use Rattle.synth.specs.declared.Method.{Method}
@@ -13,10 +14,10 @@ use Rattle.values.specs.declared.Given.{Given}
 use Rattle.values.specs.declared.Kill.{Kill}
 use Rattle.values.specs.declared.Verdict.{Verdict}
 
--- the bytes of a value in the frame f, where it is given
+-- a value in the frame f as it is judged, where it is given
 abbrev pub givenOf : List ℕ → Given → Option (List ℕ)
 givenOf f Given.Nothing = none
-givenOf f (Given.At p) = some (part f p)
+givenOf f (Given.At p) = some (joined (part f p))
 
 -- Kill-On-Barge-In defaults to true; it is `true` or `false` in any case
 abbrev pub killOf : Option (List ℕ) → Kill

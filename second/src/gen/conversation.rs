@@ -6,6 +6,7 @@
 use super::batch::Batch;
 use super::damage::stated_length;
 use super::draft::{methods, other_method};
+use super::folds::{fold, fold_draft};
 use super::random::Random;
 use super::request::Request;
 use super::unsound::{bad_name, broken, given, good_name, longest, sound, ODD_BITS};
@@ -86,20 +87,13 @@ struct Conversation<'a> {
     /// What a client takes it for, also where the numbers show none.
     channel: Channel,
     habit: Habit,
+    /// Of a hundred requests, how many have fields that go on in further lines.
+    folded: usize,
 }
 
 /// One conversation on channels of a kind.
 pub fn calls(batch: &mut Batch, random: &mut Random, kind: Kind) {
-    let habit = random.pick(habits(kind));
-    let channel = Channel::UNOPENED;
-    let mut conversation = Conversation {
-        batch,
-        random,
-        kind,
-        kept: Kept::of(&channel),
-        channel,
-        habit,
-    };
+    let mut conversation = Conversation::new(batch, random, kind, 6);
     let weights = match kind {
         Kind::Synthesizer => [66, 6, 10, 18, 0],
         Kind::Recognizer => [50, 6, 40, 30, 8],
@@ -113,7 +107,36 @@ pub fn calls(batch: &mut Batch, random: &mut Random, kind: Kind) {
     }
 }
 
-impl Conversation<'_> {
+/// One in which most requests have folds.
+pub fn folded(batch: &mut Batch, random: &mut Random, kind: Kind) {
+    let mut conversation = Conversation::new(batch, random, kind, 85);
+    match conversation.random.weighted(&[80, 20, 5]) {
+        0 => conversation.conversation(),
+        1 => conversation.given_channel(true),
+        _ => conversation.fold_at_every_place(),
+    }
+}
+
+impl<'a> Conversation<'a> {
+    fn new(
+        batch: &'a mut Batch,
+        random: &'a mut Random,
+        kind: Kind,
+        folded: usize,
+    ) -> Conversation<'a> {
+        let habit = random.pick(habits(kind));
+        let channel = Channel::UNOPENED;
+        Conversation {
+            batch,
+            random,
+            kind,
+            kept: Kept::of(&channel),
+            channel,
+            habit,
+            folded,
+        }
+    }
+
     fn conversation(&mut self) {
         let name = good_name(self.random, self.kind);
         self.open(&name);
@@ -176,6 +199,31 @@ impl Conversation<'_> {
         }
         let room = self.random.pick(&[1249, 1250, 1250, 1251]);
         self.reported(cause, room, Some(0));
+        self.show();
+    }
+
+    /// A fold at every place behind the start line of a request, on a fresh
+    /// channel whenever the queue is full.
+    fn fold_at_every_place(&mut self) {
+        let name = good_name(self.random, self.kind);
+        self.open(&name);
+        let with_body = methods(self.kind)[0];
+        let method = self.random.pick(&[with_body, with_body, "STOP"]);
+        let fold = fold(self.random);
+        let request = Request::good(self.random, &self.channel, method, 1);
+        let mut draft = request.draft(self.random);
+        let places = draft.rest().len() - draft.line.len() - 2 - draft.body.len();
+        for place in 0..=places {
+            if self.channel.is_full() {
+                self.open(&name);
+            }
+            let id = self.channel.last.map_or(1, |last| last + 1);
+            draft.line = format!("{method} {id}").into_bytes();
+            let mut rest = draft.rest();
+            let place = draft.line.len() + 2 + place;
+            rest.splice(place..place, fold.iter().copied());
+            self.send(&draft.framed(&rest));
+        }
         self.show();
     }
 
@@ -262,6 +310,9 @@ impl Conversation<'_> {
 
     fn send_request(&mut self, request: &Request) {
         let mut draft = request.draft(self.random);
+        if self.random.chance(self.folded) {
+            fold_draft(&mut draft, self.random);
+        }
         match self.random.weighted(&[94, 3, 3]) {
             0 => {}
             1 => draft.after = wire::noise(self.random),

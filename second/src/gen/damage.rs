@@ -137,14 +137,12 @@ pub fn field_count(draft: &mut Draft, random: &mut Random) {
     }
 }
 
-const MALFORMED: [&[u8]; 18] = [
+const MALFORMED: [&[u8]; 16] = [
     b"no colon",
     b"nocolon",
     b":value",
-    b" name:value",
-    b"\tname:value",
-    b" ",
-    b"\t\t",
+    b"name\r\n :value",
+    b"na\r\n\tme:value",
     b"na me:value",
     b"name :value",
     b"na_me:value",
@@ -158,7 +156,13 @@ const MALFORMED: [&[u8]; 18] = [
     b"\nname:value",
 ];
 
+/// Continued lines, which are malformed before any field.
+pub const CONTINUED: [&[u8]; 5] = [b" name:value", b"\tname:value", b" ", b"\t\t", b" \t "];
+
 pub fn malformed_line(draft: &mut Draft, random: &mut Random) {
+    if random.chance(20) {
+        return draft.fields.insert(0, random.pick(&CONTINUED).to_vec());
+    }
     let line = random.pick(&MALFORMED).to_vec();
     let place = random.below(draft.fields.len() + 1);
     draft.fields.insert(place, line);
@@ -205,10 +209,7 @@ fn change_case(letters: &mut [u8], random: &mut Random) {
 
 /// A Content-Length that disagrees, or agrees in an unusual way.
 pub fn content_length(draft: &mut Draft, random: &mut Random) {
-    draft.fields.retain(|field| {
-        let name = field_name(field);
-        !name.eq_ignore_ascii_case(b"Content-Length")
-    });
+    draft.remove(b"Content-Length");
     let right = draft.body.len();
     let value = match random.below(16) {
         0 => (right + 1).to_string(),
@@ -231,6 +232,13 @@ pub fn content_length(draft: &mut Draft, random: &mut Random) {
     let place = random.below(draft.fields.len() + 1);
     let field = format!("Content-Length:{value}").into_bytes();
     draft.fields.insert(place, field);
+}
+
+/// The right Content-Length, first of all fields.
+pub fn set_content_length(draft: &mut Draft) {
+    draft.remove(b"Content-Length");
+    let field = format!("Content-Length:{}", draft.body.len());
+    draft.fields.insert(0, field.into_bytes());
 }
 
 /// No empty line, or something else in its place.

@@ -2,6 +2,7 @@
 
 use super::random::Random;
 use crate::channel::Kind;
+use crate::octets::line_end;
 use crate::writing::with_own_digits;
 
 /// How the stated length is written.
@@ -44,8 +45,31 @@ impl Draft {
         }
     }
 
+    /// A message taken apart; none where it has no empty line.
+    pub fn of(bytes: &[u8]) -> Option<Draft> {
+        let end = bytes.windows(4).position(|four| four == b"\r\n\r\n")?;
+        let mut lines = lines(&bytes[..end]).into_iter();
+        let mut words = lines.next()?.splitn(3, |&byte| byte == b' ');
+        let version = words.next()?.strip_prefix(b"MRCP/")?;
+        let mut draft = Draft::new(words.nth(1)?.to_vec());
+        draft.version = version.to_vec();
+        draft.fields = lines.map(<[u8]>::to_vec).collect();
+        draft.body = bytes[end + 4..].to_vec();
+        Some(draft)
+    }
+
     pub fn field(&mut self, name: &[u8], value: &[u8]) {
         self.fields.push([name, b":", value].concat());
+    }
+
+    pub fn has(&self, name: &[u8]) -> bool {
+        let mut fields = self.fields.iter();
+        fields.any(|field| field_name(field).eq_ignore_ascii_case(name))
+    }
+
+    pub fn remove(&mut self, name: &[u8]) {
+        self.fields
+            .retain(|field| !field_name(field).eq_ignore_ascii_case(name));
     }
 
     /// All that follows the opening and is in the message.
@@ -92,6 +116,18 @@ impl Draft {
             Length::Written(digits) => digits.clone(),
         }
     }
+}
+
+/// What stands before, between and behind the CRLFs.
+fn lines(bytes: &[u8]) -> Vec<&[u8]> {
+    let mut lines = Vec::new();
+    let mut rest = bytes;
+    while let Some(end) = line_end(rest) {
+        lines.push(&rest[..end]);
+        rest = &rest[end + 2..];
+    }
+    lines.push(rest);
+    lines
 }
 
 /// The methods of a kind. The first brings a body.
@@ -204,10 +240,8 @@ pub fn sample(random: &mut Random) -> Draft {
     }
     for _ in 0..random.weighted(&[30, 30, 20, 10, 5]) {
         let field = random.pick(&SOME_FIELDS);
-        let name = field_name(field);
         // A known name twice is damage of its own.
-        let mut others = draft.fields.iter();
-        if !others.any(|other| field_name(other).eq_ignore_ascii_case(name)) {
+        if !draft.has(field_name(field)) {
             draft.fields.push(field.to_vec());
         }
     }

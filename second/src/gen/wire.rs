@@ -3,6 +3,7 @@
 use super::batch::Batch;
 use super::damage::{damage, damage_bytes, other_byte, stated_length, version};
 use super::draft::{sample, Draft, Length};
+use super::folds::fold_draft;
 use super::random::Random;
 
 /// One or more `frame` commands.
@@ -68,6 +69,9 @@ pub fn noise(random: &mut Random) -> Vec<u8> {
 /// A sound or damaged message, with more bytes behind it at times.
 pub fn message(random: &mut Random) -> Vec<u8> {
     let mut draft = sample(random);
+    if random.chance(8) {
+        fold_draft(&mut draft, random);
+    }
     for _ in 0..random.weighted(&[35, 45, 15, 5]) {
         damage(&mut draft, random);
     }
@@ -131,9 +135,7 @@ fn opening_and_more(random: &mut Random) -> Vec<u8> {
 /// A message of around 16,384 bytes, or of some thousand.
 fn long_message(random: &mut Random) -> Vec<u8> {
     let mut draft = sample(random);
-    draft
-        .fields
-        .retain(|field| !field.starts_with(b"Content-Length"));
+    draft.remove(b"Content-Length");
     let total = match random.chance(50) {
         true => random.between(16_381, 16_387),
         false => random.between(300, 16_000),

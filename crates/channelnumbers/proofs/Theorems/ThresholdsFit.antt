@@ -18,7 +18,7 @@ use Rattle.lists.proofs.Tests.{both, choose}
 use Rattle.lists.proofs.Scans.{all-append}
 use Rattle.readers.specs.Words.{numberOf}
 use Rattle.message.specs.Message.{Reading, refused, message, fieldsIn, request, response, event}
-use Rattle.message.specs.Known.{valueOf}
+use Rattle.message.specs.Known.{judgedValue}
 use Rattle.message.specs.Reading.{readBytes}
 use Rattle.message.specs.declared.Known.the-variants.{ActiveRequestIdList, ConfidenceThreshold}
 use Rattle.answer.specs.Written.{writtenAll}
@@ -72,7 +72,7 @@ Suits k m = k ≡ Kind.Synthesizer → isRecognize m ≡ false
 
 entry-fit : (k : Kind) (r : Request) → Suits k (r .method) → isThreshold k (entryOf r .threshold) ≡ true
 unfolding acting
-entry-fit Kind.Synthesizer r s = ap (λ (b : Bool). eqb (thresholdIn (elim b [ true ↦ valueOf ConfidenceThreshold (fieldsIn (r .fields)) | false ↦ none ])) 0) (s refl)
+entry-fit Kind.Synthesizer r s = ap (λ (b : Bool). eqb (thresholdIn (elim b [ true ↦ judgedValue ConfidenceThreshold (fieldsIn (r .fields)) | false ↦ none ])) 0) (s refl)
 entry-fit Kind.Recognizer r s = threshold-small (acting ConfidenceThreshold r)
 
 joined-fit : (k : Kind) (queue : List Entry) (e : Entry) → Fit k queue → isThreshold k (e .threshold) ≡ true → Fit k (queue ++ e ∷ [])

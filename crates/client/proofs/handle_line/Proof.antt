@@ -6,7 +6,8 @@ use Rattle.message.specs.Message.{InRange}
 use Rattle.startline.specs.StartLine.{startOf}
 use Rattle.startline.specs.declared.Start.{Start}
 use Rattle.channel.specs.Channel.{view}
-use Rattle.calls.proofs.Leaving.{name-short, queue-short, turned, leaves-refused}
+use Rattle.synth.proofs.Channels.{sound-facts}
+use Rattle.calls.proofs.Leaving.{queue-short, turned, leaves-refused}
 use Rattle.client.specs.Turns.{lineTurn}
 use borrow.Author.Needs.{needs}
 use Rattle.client.proofs.handle_line.Statement.{statement}
@@ -25,8 +26,10 @@ judge-requires : tie.Need-judge-requires
 judge-requires c κs = search needs
 
 deliver-requires : tie.Need-deliver-requires
-deliver-requires c κs = let at = c .before .before .before .before .before .before .before in
-    (at .pre .0, c .before .judge .ensures (name-short (view (at .args .last) (at .args .c)) (at .pre .0)) (queue-short (view (at .args .last) (at .args .c)) (at .pre .0)) .few)
+deliver-requires c κs =
+    let at = c .before .before .before .before .before .before .before in
+    let v = view (at .args .last) (at .args .c) in
+    (at .pre .0, c .before .judge .ensures (sound-facts v (at .pre .0) .named) (queue-short v (at .pre .0)) .few)
 
 enum-told : tie.Need-enum-told
 enum-told c = search needs
@@ -50,7 +53,7 @@ returns c =
     let at = c .before .before .before .before .before .before .before .before .before .before in
     let v = view (a .last) (a .c) in
     turned (ap turn (sym (c .before .before .before .before .before .before .start .given .1)))
-    (c .before .before .deliver .ensures _ (c .before .before .before .before .judge .ensures (name-short v (at .pre .0)) (queue-short v (at .pre .0))))
+    (c .before .before .deliver .ensures _ (c .before .before .before .before .judge .ensures (sound-facts v (at .pre .0) .named) (queue-short v (at .pre .0))))
 
 returns-2 : tie.Need-returns-2
 returns-2 c =

@@ -15,7 +15,7 @@ use Rattle.fieldlines.proofs.class_end.Tie as tie
 
 abbrev Inv-loop : tie.InvT-loop
 Inv-loop f class at kind last i₀ i =
-    (at ≤ i) × (last ≡ length f - 3)
+    (at ≤ i) × (last ≡ length f - 3) × (at ≤ length f → i ≤ length f)
     × (class ≡ classes → (test : ℕ → Bool) → Stands kind test
     → at + run test (drop at f) ≡ i + run test (drop i f))
 
@@ -26,7 +26,7 @@ fours-end-requires : tie.Need-fours-end-requires Inv-loop μ-loop
 fours-end-requires c κs = search needs
 
 loop-holds : tie.Need-loop-holds Inv-loop μ-loop
-loop-holds c = (search needs, c .fours-end .ensures, λ t test s. refl)
+loop-holds c = (search needs, c .fours-end .ensures, λ h. h, λ t test s. refl)
 
 is-of-requires : tie.Need-is-of-requires Inv-loop μ-loop
 is-of-requires c κs = omega arith
@@ -35,8 +35,9 @@ returns : tie.Need-returns Inv-loop μ-loop
 returns c =
     let l = c .before .before .before .loop in (
       omega (arith, l .inv .0),
+      λ h. omega arith,
       λ t test s.
-          stops test _ _ (l .i) (l .inv .2 t test s) (omega arith)
+          stops test _ _ (l .i) (l .inv .3 t test s) (omega arith)
           (sym (c .before .is-of .ensures t test s) ∙ not-true _ (c .if1 .taken)),
     )
 
@@ -53,8 +54,9 @@ returns-2 : tie.Need-returns-2 Inv-loop μ-loop
 returns-2 c =
     let l = c .before .before .before .before .before .loop in (
       omega (arith, l .inv .0),
+      λ h. omega arith,
       λ t test s.
-          let e1 = goes-on test _ _ (l .i) (l .inv .2 t test s) (l .i + 1) refl (omega arith)
+          let e1 = goes-on test _ _ (l .i) (l .inv .3 t test s) (l .i + 1) refl (omega arith)
           (sym (c .before .before .before .is-of .ensures t test s) ∙ not-false _ (c .before .before .if1 .left)) in
           stops test _ _ (l .i + 1) e1 (omega arith)
           (sym (c .before .is-of2 .ensures t test s) ∙ not-true _ (c .if2 .taken)),
@@ -73,8 +75,9 @@ returns-3 : tie.Need-returns-3 Inv-loop μ-loop
 returns-3 c =
     let l = c .before .before .before .before .before .before .before .loop in (
       omega (arith, l .inv .0),
+      λ h. omega arith,
       λ t test s.
-          let e1 = goes-on test _ _ (l .i) (l .inv .2 t test s) (l .i + 1) refl (omega arith)
+          let e1 = goes-on test _ _ (l .i) (l .inv .3 t test s) (l .i + 1) refl (omega arith)
           (sym (c .before .before .before .before .before .is-of .ensures t test s)
           ∙ not-false _ (c .before .before .before .before .if1 .left)) in
           let e2 = goes-on test _ _ (l .i + 1) e1 (l .i + 2) (omega arith) (omega arith)
@@ -96,8 +99,9 @@ returns-4 : tie.Need-returns-4 Inv-loop μ-loop
 returns-4 c =
     let l = c .before .before .before .before .before .before .before .before .before .loop in (
       omega (arith, l .inv .0),
+      λ h. omega arith,
       λ t test s.
-          let e1 = goes-on test _ _ (l .i) (l .inv .2 t test s) (l .i + 1) refl (omega arith)
+          let e1 = goes-on test _ _ (l .i) (l .inv .3 t test s) (l .i + 1) refl (omega arith)
           (sym (c .before .before .before .before .before .before .before .is-of .ensures t test s)
           ∙ not-false _ (c .before .before .before .before .before .before .if1 .left)) in
           let e2 = goes-on test _ _ (l .i + 1) e1 (l .i + 2) (omega arith) (omega arith)
@@ -120,8 +124,9 @@ loop-again c =
     let l = c .before .before .before .before .before .before .before .before .before .loop in (
       omega (arith, l .inv .0),
       l .inv .1,
+      λ h. omega arith,
       λ t test s.
-          let e1 = goes-on test _ _ (l .i) (l .inv .2 t test s) (l .i + 1) refl (omega arith)
+          let e1 = goes-on test _ _ (l .i) (l .inv .3 t test s) (l .i + 1) refl (omega arith)
           (sym (c .before .before .before .before .before .before .before .is-of .ensures t test s)
           ∙ not-false _ (c .before .before .before .before .before .before .if1 .left)) in
           let e2 = goes-on test _ _ (l .i + 1) e1 (l .i + 2) (omega arith) (omega arith)
@@ -140,7 +145,7 @@ returns-5 : tie.Need-returns-5 Inv-loop μ-loop
 returns-5 c =
     let l = c .before .before .loop in
     let r = c .class-end-by-one .ensures in
-    (omega (arith, l .inv .0, r .0), λ t test s. r .1 t test s ∙ sym (l .inv .2 t test s))
+    (omega (arith, l .inv .0, r .0), λ h. r .1 (l .inv .2 h), λ t test s. r .2 t test s ∙ sym (l .inv .3 t test s))
 
 pub class-end-spec : {M : Type 1} → statement M
 class-end-spec =

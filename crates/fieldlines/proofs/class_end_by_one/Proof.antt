@@ -17,14 +17,15 @@ use Rattle.fieldlines.proofs.class_end_by_one.Tie as tie
 
 abbrev Inv-loop : tie.InvT-loop
 Inv-loop f class at kind i₀ i =
-    (at ≤ i) × (class ≡ classes → (test : ℕ → Bool) → Stands kind test
+    (at ≤ i) × (at ≤ length f → i ≤ length f)
+    × (class ≡ classes → (test : ℕ → Bool) → Stands kind test
     → at + run test (drop at f) ≡ i + run test (drop i f))
 
 abbrev μ-loop : tie.MeasureT-loop
 μ-loop f class at kind i₀ i = length f - i
 
 loop-holds : tie.Need-loop-holds Inv-loop μ-loop
-loop-holds c = (search needs, λ t test s. refl)
+loop-holds c = (search needs, λ h. h, λ t test s. refl)
 
 is-of-requires : tie.Need-is-of-requires Inv-loop μ-loop
 is-of-requires c κs = search needs
@@ -33,7 +34,8 @@ returns : tie.Need-returns Inv-loop μ-loop
 returns c =
     let l = c .before .before .before .loop in (
       l .inv .0,
-      λ t test s. stops test _ _ (l .i) (l .inv .1 t test s) (search needs)
+      l .inv .1,
+      λ t test s. stops test _ _ (l .i) (l .inv .2 t test s) (search needs)
           (sym (c .before .is-of .ensures t test s) ∙ not-true _ (c .if1 .taken)),
     )
 
@@ -47,7 +49,8 @@ loop-again : tie.Need-loop-again Inv-loop μ-loop
 loop-again c =
     let l = c .before .before .before .loop in (
       omega (arith, l .inv .0),
-      λ t test s. goes-on test _ _ (l .i) (l .inv .1 t test s) (l .i + 1) refl (search needs)
+      λ h. omega arith,
+      λ t test s. goes-on test _ _ (l .i) (l .inv .2 t test s) (l .i + 1) refl (search needs)
           (sym (c .before .is-of .ensures t test s) ∙ not-false _ (c .if1 .left)),
     )
 
@@ -55,8 +58,9 @@ returns-2 : tie.Need-returns-2 Inv-loop μ-loop
 returns-2 c =
     let l = c .before .loop in (
       l .inv .0,
+      l .inv .1,
       λ t test s. sym
-          (l .inv .1 t test s ∙ run-end test (c .before .before .before .args .f .now) (l .i) (search needs)),
+          (l .inv .2 t test s ∙ run-end test (c .before .before .before .args .f .now) (l .i) (search needs)),
     )
 
 pub class-end-by-one-spec : {M : Type 1} → statement M

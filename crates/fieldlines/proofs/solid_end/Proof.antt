@@ -1,13 +1,13 @@
 -- `fieldlines::solid_end` meets its contract. The loop's invariant: what is left of the text has the same bytes without
--- the blanks at its end.
+-- the gaps at its end.
 -- Assumes nothing.
 use mathlib.Core.Path.{_≡_, refl, sym, ap, _∙_}
 use Prim.Native.Nat.{_+_, _-_, _≤_}
 use native.Mathlib.Omega.{arith}
 use lib.ListN.{length}
 use borrow.Author.Tests.{not-true, not-false}
-use Rattle.octets.specs.Octets.{classes, isBlank}
-use Rattle.octets.proofs.Bits.{blank-bit}
+use Rattle.octets.specs.Octets.{classes, isGap}
+use Rattle.octets.proofs.Bits.{gap-bit}
 use Rattle.message.specs.Fields.{trimEnd}
 use Rattle.fieldlines.proofs.Runs.{text, solid-none, solid-less, solid-stop}
 use borrow.Author.Needs.{needs}
@@ -16,7 +16,7 @@ use Rattle.fieldlines.proofs.solid_end.Tie as tie
 
 abbrev Inv-loop : tie.InvT-loop
 Inv-loop f class at end e₀ e =
-    (at ≤ e) × (e ≤ length f) × (class ≡ classes → trimEnd (text f at e end) ≡ trimEnd (text f at e e))
+    (at ≤ e) × (e ≤ length f) × (class ≡ classes → trimEnd (text f at end) ≡ trimEnd (text f at e))
 
 abbrev μ-loop : tie.MeasureT-loop
 μ-loop f class at end e₀ e = e - at
@@ -37,7 +37,7 @@ returns c =
       l .inv .0,
       λ t. sym (ap (λ u. a .at + length u) (l .inv .2 t)
           ∙ solid-stop (a .f .now) (a .at) (l .e) (search needs) (l .inv .1)
-          (sym (c .before .is-of .ensures t isBlank blank-bit) ∙ not-true _ (c .if1 .taken))),
+          (sym (c .before .is-of .ensures t isGap gap-bit) ∙ not-true _ (c .if1 .taken))),
     )
 
 sub-e : tie.Need-sub-e Inv-loop μ-loop
@@ -53,7 +53,7 @@ loop-again c =
       omega arith,
       omega (arith, l .inv .1),
       λ t. l .inv .2 t ∙ solid-less (a .f .now) (a .at) (l .e) (search needs) (l .inv .1)
-          (sym (c .before .is-of .ensures t isBlank blank-bit) ∙ not-false _ (c .if1 .left)),
+          (sym (c .before .is-of .ensures t isGap gap-bit) ∙ not-false _ (c .if1 .left)),
     )
 
 returns-2 : tie.Need-returns-2 Inv-loop μ-loop

@@ -2,6 +2,7 @@
 use mathlib.Core.Path.{sym, ap, _∙_}
 use mathlib.Core.Option.{some}
 use borrow.Author.Tests.{not-true, not-false}
+use Rattle.message.specs.Folds.{joined}
 use Rattle.synth.specs.Judgement.{fails}
 use Rattle.values.specs.Values.{givenOf}
 use Rattle.judgement.proofs.Order.{not-good, nameless, named, address-told}
@@ -49,7 +50,7 @@ returns-3 c =
     λ h v major minor m fs l n t.
     let a = c .before .before .before .before .before .before .before .before .before .args in
     let said = ap (givenOf (a .f .now)) (c .before .before .before .before .before .value .ensures) ∙ address-told v major minor m (a .id) fs (a .f .now) (a .h) t in
-    let came = ap some (c .before .part .ensures) ∙ ap (givenOf (a .f .now)) (sym (c .before .before .before .given .given .1)) ∙ said in
+    let came = ap (λ v. some (joined v)) (c .before .part .ensures) ∙ ap (givenOf (a .f .now)) (sym (c .before .before .before .given .given .1)) ∙ said in
     c .for-us .ensures h v major minor m fs l n came ∙ named v major minor m (a .id) fs (sym (t .good) ∙ not-false _ (c .before .before .before .before .before .before .if1 .left)) _ came
 
 pub early-spec : {M : Type 1} → statement M

@@ -1,6 +1,7 @@
 -- `judgement::for_us` compares the name, and then the id. Assumes nothing.
 use mathlib.Core.Path.{sym, ap, _∙_}
 use borrow.Author.Tests.{not-true, not-false}
+use Rattle.message.specs.Folds.{joined}
 use Rattle.synth.specs.Judgement.{fails}
 use Rattle.channelnames.specs.Names.{nameOf}
 use Rattle.judgement.proofs.Order.{name-told, other-name, not-above, ours-above}
@@ -19,7 +20,7 @@ returns c =
     λ h v major minor m fs l n x.
     let a = c .before .before .before .before .args in
     ap fails (c .no-such-channel .ensures)
-    ∙ other-name v major minor m (a .id) fs (a .v .now) x (name-told v (nameOf (a .name)) (a .v .now) n h (c .before .before .is-name .ensures) ∙ not-true _ (c .before .if1 .taken))
+    ∙ other-name v major minor m (a .id) fs (joined (a .v .now)) x (name-told v (nameOf (a .name)) (a .v .now) n h (c .before .before .is-name .ensures) ∙ not-true _ (c .before .if1 .taken))
 
 is-above-requires : tie.Need-is-above-requires
 is-above-requires c κs = search needs
@@ -32,14 +33,14 @@ returns-2 c =
     λ h v major minor m fs l n x.
     let a = c .before .before .before .before .before .before .args in
     ap fails (c .out-of-order .ensures)
-    ∙ not-above v major minor m (a .id) fs (a .v .now) x (name-told v (nameOf (a .name)) (a .v .now) n h (c .before .before .before .before .is-name .ensures) ∙ not-false _ (c .before .before .before .if1 .left))
+    ∙ not-above v major minor m (a .id) fs (joined (a .v .now)) x (name-told v (nameOf (a .name)) (a .v .now) n h (c .before .before .before .before .is-name .ensures) ∙ not-false _ (c .before .before .before .if1 .left))
     (rw l (sym (c .before .before .is-above .ensures) ∙ not-true _ (c .before .if2 .taken)))
 
 returns-3 : tie.Need-returns-3
 returns-3 c =
     λ h v major minor m fs l n x.
     let a = c .before .before .before .before .before .args in
-    ours-above v major minor m (a .id) fs (a .v .now) x (name-told v (nameOf (a .name)) (a .v .now) n h (c .before .before .before .is-name .ensures) ∙ not-false _ (c .before .before .if1 .left))
+    ours-above v major minor m (a .id) fs (joined (a .v .now)) x (name-told v (nameOf (a .name)) (a .v .now) n h (c .before .before .before .is-name .ensures) ∙ not-false _ (c .before .before .if1 .left))
     (rw l (sym (c .before .is-above .ensures) ∙ not-false _ (c .if2 .left)))
 
 pub for-us-spec : {M : Type 1} → statement M

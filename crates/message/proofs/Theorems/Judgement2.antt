@@ -21,17 +21,20 @@ use Rattle.message.specs.declared.Known.the-variants.{ContentLength}
 use Rattle.message.proofs.Says.{frame-length, says}
 use Rattle.message.proofs.Rows.{NameFits}
 use Rattle.message.proofs.Parts.{rows-within}
+use Rattle.message.proofs.Theorems.JudgedAlike.{lengths-alike}
 
 module _ (s : List ℕ) (h : Head) (st : Start Span) (fs : List (Field Span)) (body : Span) (e : reading s ≡ message h st (good fs body)) where
   pub body-ends : body .start + body .len ≡ h .stated
   body-ends = let t = says s h st (good fs body) e in t .fields .ends ∙ frame-length s _ _ _ _ (t .frame)
 
   -- the fields' bytes in the frame are those in s
-  texts : map (onField (part (take (h .stated) s))) fs ≡ map (onField (part s)) fs
+  pub texts : map (onField (part (take (h .stated) s))) fs ≡ map (onField (part s)) fs
   texts = let t = says s h st (good fs body) e in rows-within (h .stated) s (t .at) fs (body .start) (t .fields .rows) (omega (arith, body-ends))
 
   pub length-agrees : agrees (valueOf ContentLength (map (onField (part s)) fs)) (body .len) ≡ true
-  length-agrees = rw texts at (says s h st (good fs body) e .fields .agreed)
+  length-agrees =
+      sym (lengths-alike (valueOf ContentLength (map (onField (part s)) fs)) (body .len))
+      ∙ rw texts at (says s h st (good fs body) e .fields .agreed)
 
   -- a Content-Length is the number of the body's bytes, which are all that remain of the stated length; without one there is no body
   pub given-length : (v : List ℕ) → valueOf ContentLength (map (onField (part s)) fs) ≡ some v → numberOf v ≡ body .len

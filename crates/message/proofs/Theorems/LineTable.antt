@@ -6,6 +6,7 @@ use mathlib.Core.List.{[], _∷_}
 use Rattle.octets.specs.Octets.{bytes}
 use Rattle.message.specs.Message.{request, response, event}
 use Rattle.message.specs.StartLines.{Started, started, startLine}
+use Rattle.message.specs.Folds.{raw, joined}
 use Rattle.message.specs.Fields.{Line, empty, field, fieldLine}
 use Rattle.message.specs.Known.{knownOf}
 use Rattle.message.specs.declared.RequestState.{RequestState}
@@ -76,11 +77,11 @@ pub start-lines :
 unfolding started-by asks answers tells startLine
 start-lines = refl
 
-pub line-of : String → Line
+unfoldable pub line-of : String → Line
 line-of text = fieldLine 0 (bytes text)
 
 -- a name of so many bytes at the front, a value's place and length, and where the next line begins
-pub named : ℕ → ℕ → ℕ → ℕ → Line
+unfoldable pub named : ℕ → ℕ → ℕ → ℕ → Line
 named length at valued next = field (record { name = record { start = 0; len = length }; value = record { start = at; len = valued } }) next
 
 pub field-lines :
@@ -120,7 +121,7 @@ pub field-lines :
     ∷ Line.malformed
     ∷ Line.malformed
     ∷ []
-unfolding line-of named fieldLine
+unfolding line-of named fieldLine raw joined
 field-lines = refl
 
 pub known : String → Known

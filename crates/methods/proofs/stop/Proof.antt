@@ -4,6 +4,7 @@ use mathlib.Core.Path.{_≡_, refl, sym, ap, _∙_}
 use mathlib.Core.Option.{none, some}
 use mathlib.Core.List.{List}
 use Rattle.message.specs.Message.{Fields}
+use Rattle.message.specs.Folds.{joined}
 use Rattle.message.specs.declared.Known.the-variants.{ActiveRequestIdList}
 use Rattle.synth.specs.Channel.{View, withQueue}
 use Rattle.synth.specs.Request.{acting, ignoresAny}
@@ -65,7 +66,7 @@ returns-2 c =
     let a = c .before .before .before .before .before .before .before .before .args in
     let said = asked-list (c .before .before .before .before .before) v major minor fs told in
     c .stop-named .ensures few v major minor fs
-    (asked-ignored (c .before .before .before .before .before .before) v major minor fs told, ap some (c .before .part .ensures) ∙ ap (givenOf (a .f .now)) (sym (c .before .before .before .list .given .1)) ∙ said)
+    (asked-ignored (c .before .before .before .before .before .before) v major minor fs told, ap (λ v. some (joined v)) (c .before .part .ensures) ∙ ap (givenOf (a .f .now)) (sym (c .before .before .before .list .given .1)) ∙ said)
 
 pub stop-spec : {M : Type 1} → statement M
 stop-spec =

@@ -5,6 +5,7 @@ use mathlib.Core.Option.{some}
 use native.Mathlib.Omega.{arith}
 use lib.ListN.{length, length-map}
 use lib.Seq.{length-take-le}
+use Rattle.message.specs.Folds.{joined}
 use Rattle.answer.specs.IdList.{isIdList}
 use Rattle.idlist.specs.Named.{namedIn}
 use Rattle.synth.specs.Channel.{withQueue, ids}
@@ -15,7 +16,7 @@ use Rattle.queue.proofs.Queues.{ids-16}
 use Rattle.outcomes.specs.Outcomes.{asked}
 use Rattle.outcomes.proofs.Making.{makes-failed}
 use Rattle.methods.proofs.Methods.{stop-illegal, stop-legal}
-use Rattle.methods.proofs.Stops.{held-few, named-illegal, named-those, named-end}
+use Rattle.methods.proofs.Stops.{held-few, named-joined, named-illegal, named-those, named-end}
 use borrow.Author.Needs.{needs}
 use Rattle.methods.proofs.stop_named.Statement.{statement}
 use Rattle.methods.proofs.stop_named.Tie as tie
@@ -55,7 +56,8 @@ returns : tie.Need-returns
 returns c =
     λ few v major minor fs told.
     let a = c .before .before .before .before .before .before .before .before .before .args in
-    let illegal = named-illegal (a .v .now) _ (c .before .before .before .before .named .ensures) (c .before .before .enum-told .given .1) in
+    let asks = c .before .before .before .before .named .ensures ∙ named-joined (a .v .now) _ in
+    let illegal = named-illegal (joined (a .v .now)) _ asks (c .before .before .enum-told .given .1) in
     makes-failed v (asked major minor Method.Stop (a .id) fs) (a .state) (a .q) 404 (c .before .illegal-value .ensures) (c .failed .ensures)
     (stop-illegal (withQueue (a .state) (listOf (a .q)) v) major minor (a .id) fs (ap (optional isIdList) (sym (told .1)) ∙ illegal))
 
@@ -65,11 +67,12 @@ returns-2 c =
     let a = c .before .before .before .before .before .before .before .before .before .args in
     let held = ids (listOf (a .q)) in
     let all = c .before .before .before .before .before .before .before .list-held .ensures .0 few in
-    let asks = c .before .before .before .before .named .ensures ∙ ap (namedIn (a .v .now)) (all .shown) in
+    let asks = c .before .before .before .before .named .ensures ∙ named-joined (a .v .now) _
+    ∙ ap (namedIn (joined (a .v .now))) (all .shown) in
     let short : length held ≤ 16 = rw length-map few in
-    let those = named-those (a .v .now) held _ asks (c .before .before .which .given .1) short in
-    named-end (a .state) (a .q) v (asked major minor Method.Stop (a .id) fs) (told .0) (a .v .now) _ (those .1) (c .end .ensures few)
-    (stop-legal (withQueue (a .state) (listOf (a .q)) v) major minor (a .id) fs (some (a .v .now)) (told .1) (those .0))
+    let those = named-those (joined (a .v .now)) held _ asks (c .before .before .which .given .1) short in
+    named-end (a .state) (a .q) v (asked major minor Method.Stop (a .id) fs) (told .0) (joined (a .v .now)) _ (those .1) (c .end .ensures few)
+    (stop-legal (withQueue (a .state) (listOf (a .q)) v) major minor (a .id) fs (some (joined (a .v .now))) (told .1) (those .0))
 
 pub stop-named-spec : {M : Type 1} → statement M
 stop-named-spec =

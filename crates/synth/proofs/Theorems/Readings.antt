@@ -60,7 +60,7 @@ pub readings :
     ∷ at fresh "MRCP/2.0 68 STOP 0000000007\r\nChannel-Identifier:7f3a@speechsynth\r\n\r\n"  -- 6: ten digits with zeros
     ∷ at fresh "MRCP/2.0 69 STOP 00000000007\r\nChannel-Identifier:7f3a@speechsynth\r\n\r\n"  -- 6: eleven digits
     ∷ at fresh "MRCP/02.00 61 STOP 9\r\nChannel-Identifier:7f3a@speechsynth\r\n\r\n"  -- 6: versions as numbers
-    ∷ at fresh "MRCP/2.0 63 STOP 9\r\nChannel-Identifier:7f3a@speechsynth\r\n \t\r\n\r\n"  -- 7: a line of blanks
+    ∷ at fresh "MRCP/2.0 63 STOP 9\r\nChannel-Identifier:7f3a@speechsynth\r\n \t\r\n\r\n"  -- 7, replaced by K2: a line of blanks goes on
     ∷ at fresh "MRCP/2.0 70 STOP 9\r\nChannel-Identifier:7f3a@speechsynth\r\nVendor:a\u{1}\r\n\r\n"  -- 8: an ignored value's bytes are judged
     ∷ at fresh "MRCP/2.0 89 STOP 9\r\nChannel-Identifier:7f3a@speechsynth\r\nLogging-Tag:a\r\nlogging-tag:b\r\n\r\n"  -- 9: a known name twice, whatever it does there
     ∷ at fresh "MRCP/2.0 79 STOP 9\r\nChannel-Identifier:7f3a@speechsynth\r\nVendor:a\r\nVendor:b\r\n\r\n"  -- 9: an unknown name twice
@@ -97,7 +97,7 @@ pub readings :
     ∷ at fresh "MRCP/2.0 59 STOP 9\r\nChannel-Identifier:7f3a@speechsynth\r\n\r\n"  -- 19: STOP while idle
     ∷ []
     ≡ 1 ∷ 2 ∷ 2 ∷ 2 ∷ 2 ∷ 5 ∷ 4 ∷ 5 ∷ 404 ∷ 5 ∷ 5 ∷ 6 ∷ 401 ∷ 5
-    ∷ 5 ∷ 401 ∷ 200 ∷ 5 ∷ 200 ∷ 404 ∷ 404 ∷ 404 ∷ 201 ∷ 201 ∷ 200 ∷ 405 ∷ 404 ∷ 409
+    ∷ 5 ∷ 401 ∷ 200 ∷ 5 ∷ 200 ∷ 200 ∷ 404 ∷ 404 ∷ 201 ∷ 201 ∷ 200 ∷ 405 ∷ 404 ∷ 409
     ∷ 404 ∷ 404 ∷ 200 ∷ 404 ∷ 404 ∷ 404 ∷ 401 ∷ 200 ∷ 404 ∷ 406 ∷ 406 ∷ 408 ∷ 409 ∷ 502
     ∷ 406 ∷ 405 ∷ 410 ∷ 402 ∷ 402 ∷ 402 ∷ 407 ∷ 200 ∷ 404 ∷ 404 ∷ 200 ∷ 200
     ∷ []

@@ -2,7 +2,8 @@
 -- Assumes nothing.
 use mathlib.Core.Path.{sym, ap, _∙_}
 use mathlib.Core.Option.{some}
-use Rattle.levels.specs.Thresholds.{thresholdOf}
+use Rattle.synth.proofs.Theorems.ValuesJudgedAlike.{level-alike}
+use Rattle.levels.specs.Thresholds.{kept, thresholdOf}
 use Rattle.values.specs.Values.{givenOf}
 use borrow.Author.Needs.{needs}
 use Rattle.values.proofs.level.Statement.{statement}
@@ -26,7 +27,7 @@ returns c = search needs
 returns-2 : tie.Need-returns-2
 returns-2 c =
     let f = c .before .before .before .before .before .before .args .f .now in
-    c .level-in .ensures ∙ ap (λ v. thresholdOf (some v)) (c .before .part .ensures)
+    c .level-in .ensures ∙ ap (λ v. thresholdOf (some v)) (c .before .part .ensures) ∙ sym (ap kept (level-alike _))
     ∙ ap (λ g. thresholdOf (givenOf f g)) (sym (c .before .before .before .g .given .1))
 
 pub level-spec : {M : Type 1} → statement M
