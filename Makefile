@@ -23,13 +23,13 @@ SECONDS = 60
 COUNT = 300
 SEED = 1
 SECOND = target/second/release/second
-CRATES = klarvesimo firmware writing
+CRATES = klarvesimo firmware whose writing
 AT = target/staticlib
 HOST = target/host
 RUN = $(HOST)
 BUILT = play tell board inputs bench
 AR = ar
-PRODUCT = $(AT)/libklarvesimo.a $(AT)/libfirmware.a
+PRODUCT = $(AT)/libklarvesimo.a $(AT)/libfirmware.a $(AT)/libwhose.a
 LIBRARY = $(CRATES:%=$(AT)/lib%.a)
 CFLAGS = -std=c99 -O2 -Wall -Wextra -Werror -Iinclude
 SCRIPTS = host/command.c host/channel.c host/script.c host/number.c host/message.c
@@ -146,7 +146,7 @@ $(HOST)/made-of: library $(LIBRARY)
 	@{ echo '$(CC) $(CFLAGS)'; sha256sum Makefile host/*.[ch] include/*.h $(LIBRARY); } >$@.new
 	@if cmp -s $@.new $@; then rm $@.new; else mv $@.new $@; fi
 
-# the six calls in one archive
+# the seven calls in one archive
 $(AT)/install/libklarvesimo.a: $(PRODUCT)
 	@rm -rf $(@D) && mkdir -p $(@D)
 	@cd $(@D) && for part in $(PRODUCT:$(AT)/%=../%); do $(AR) x $$part; done && $(AR) rcs $(@F) *.o && rm -f *.o

@@ -17,6 +17,7 @@ struct resource {
   uint64_t channel[KLARVESIMO_CHANNEL];
   uint8_t in[KLARVESIMO_LONGEST_MESSAGE]; /* what has come and is not handled; a whole message always fits */
   size_t came;
+  int announced;            /* whose message it is that has not come whole was said */
   const char *runs;         /* what its engine does with a request */
   int serves, pauses, kept; /* a request; which is paused; and whose end could not be reported yet */
   uint64_t request;
@@ -95,6 +96,14 @@ static void request_ended(struct resource *r, uint64_t request, uint32_t cause, 
     printf("[the end of %" PRIu64 " comes late, and is not reported]\n", request);
 }
 
+/* A message that has not come whole: its start line tells whose it is. */
+static void announce(struct resource *r) {
+  uint64_t id;
+  if (r->announced || klarvesimo_whose(r->in, r->came, &id) != 0) return;
+  printf("[a message of request %" PRIu64 " is coming]\n", id);
+  r->announced = 1;
+}
+
 /* Each message that has come whole is handled: 1 where the line is to be kept, 0 where it is to be closed. */
 static int handle_messages(struct resource *r) {
   uint8_t out[KLARVESIMO_LONGEST_ANSWER]; /* no answer is longer, so there is always room */
@@ -106,6 +115,7 @@ static int handle_messages(struct resource *r) {
       send_to_client(out, counts[KLARVESIMO_WRITTEN]);
       break;
     case KLARVESIMO_MORE_BYTES:
+      announce(r);
       return 1;
     case KLARVESIMO_NO_MESSAGE:
     case KLARVESIMO_TOO_LONG:
@@ -121,6 +131,7 @@ static int handle_messages(struct resource *r) {
     }
     r->came -= (size_t)counts[KLARVESIMO_CONSUMED];
     memmove(r->in, r->in + counts[KLARVESIMO_CONSUMED], r->came);
+    r->announced = 0;
     after_a_call(r);
   }
 }

@@ -65,6 +65,7 @@ static void recognize(unsigned id) {
 /* one call each */
 static void frames(void) { number = klarvesimo_frame(message, length, numbers, KLARVESIMO_FRAME_NUMBERS); }
 static void reads(void) { number = klarvesimo_read(message, length, numbers, KLARVESIMO_MOST, counts); }
+static void asks_whose(void) { number = klarvesimo_whose(message, length, numbers); }
 static void opens(void) { number = klarvesimo_open(channel, (const uint8_t *)CHANNEL_NAME, sizeof CHANNEL_NAME - 1); }
 static void handles(void) { number = klarvesimo_handle(channel, message, length, out, sizeof out, counts); }
 static void reports(void) { number = klarvesimo_report(channel, KLARVESIMO_CAUSE_NORMAL, 0, out, sizeof out, counts); }
@@ -144,6 +145,7 @@ static void read_folds(void) { /* the same, each value in a second line */
 static void read_20(void) { speak_of(SEVENTEEN, "463", "2"); }
 static void read_2(void) { speak_of("", "00112", "00002"); }
 static void read_16000(void) { speak_of("", "16110", "16000"); }
+static void whose(void) { read_3(), length = 40; } /* its start line, and not all of its fields */
 static void nothing(void) {}
 static void longest_ids(void) {
   for (uint32_t i = 0; i < KLARVESIMO_MOST_HELD; i++) ids[i] = UINT32_MAX - KLARVESIMO_MOST_HELD + i;
@@ -163,7 +165,8 @@ static void sixteen_outstanding(void) { prepare(16); }
 static void call_after_1(void) { prepare_after(1); }
 static void call_after_1000(void) { prepare_after(1000); }
 
-/* the sum of the lengths that so many calls give; where the channel changes, each on a copy of the one that was prepared */
+/* the sum of the lengths, or ids, that so many calls give; where the channel changes, each on a copy of the one that
+ * was prepared */
 static inline uint64_t sum_of(void (*call)(void), const uint64_t *gives, int changes, long count) {
   uint64_t sum = 0;
   for (long i = 0; i < count; i++) {
@@ -177,6 +180,7 @@ static inline uint64_t sum_of(void (*call)(void), const uint64_t *gives, int cha
 /* a loop for each, so that what is counted beside the call is little */
 static uint64_t run_frames(long count) { return sum_of(frames, numbers + KLARVESIMO_FRAME_LENGTH, 0, count); }
 static uint64_t run_reads(long count) { return sum_of(reads, counts, 0, count); }
+static uint64_t run_asks_whose(long count) { return sum_of(asks_whose, numbers, 0, count); }
 static uint64_t run_responds(long count) { return sum_of(responds, counts, 0, count); }
 static uint64_t run_responds_longest(long count) { return sum_of(responds_longest, counts, 0, count); }
 static uint64_t run_opens(long count) { return sum_of(opens, channel + KLARVESIMO_CHANNEL_SIZE, 0, count); }
@@ -198,6 +202,7 @@ static const struct bench {
     {"read-20", read_20, reads, run_reads},
     {"read-2", read_2, reads, run_reads},
     {"read-16000", read_16000, reads, run_reads},
+    {"whose", whose, asks_whose, run_asks_whose},
     {"write-t8", nothing, responds, run_responds},
     {"write-305", longest_ids, responds_longest, run_responds_longest},
     {"call-open", nothing, opens, run_opens},

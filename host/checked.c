@@ -106,6 +106,32 @@ struct checked checked_read(const uint8_t *from, size_t count, uint64_t *numbers
   return c;
 }
 
+/* Once the whole message is there, reading gives the same; before, and where it is too long, there is an id, a
+ * malformed line, or none yet. */
+static int whose_agrees(uint32_t number, uint64_t id, const uint8_t *bytes, size_t count) {
+  uint64_t numbers[KLARVESIMO_MOST], consumed;
+  uint32_t whole = klarvesimo_read(bytes, count, numbers, KLARVESIMO_MOST, &consumed);
+  if (whole == 0) return number == 0 && id == numbers[KLARVESIMO_ID];
+  if (whole == KLARVESIMO_MORE_BYTES || whole == KLARVESIMO_TOO_LONG)
+    return number == 0 || number == KLARVESIMO_MORE_BYTES || number == KLARVESIMO_MALFORMED_LINE;
+  return number == whole;
+}
+
+struct checked checked_whose(const uint8_t *from, size_t count, uint64_t *id) {
+  struct checked c = {0};
+  size_t looked = count < KLARVESIMO_LOOKED_AT ? count : KLARVESIMO_LOOKED_AT;
+  const uint8_t *bytes = lend_copy(INPUT, from, count);
+  uint64_t *out = lend(OUTPUT, sizeof *out);
+  c.number = klarvesimo_whose(bytes, count, out);
+  *id = *out;
+  c.holds = (c.number ? lend_untouched(out, sizeof *out) : *id <= UINT32_MAX) &&
+            whose_agrees(c.number, *id, bytes, count) && memcmp(bytes, from, count) == 0;
+  bytes = lend_copy(INPUT, from, looked); /* the same without what is not looked at */
+  out = lend(OUTPUT, sizeof *out);
+  c.holds &= klarvesimo_whose(bytes, looked, out) == c.number && *out == *id;
+  return c;
+}
+
 /* klarvesimo_held with `room` gives the number, and on 0 the ids of the channel's own queue and no more */
 static int held_gives(uint32_t number, size_t room) {
   uint64_t held = number ? 0 : channel[KLARVESIMO_CHANNEL_COUNT];

@@ -30,6 +30,9 @@ struct checked checked_held(size_t room); /* no more than KLARVESIMO_MOST */
 struct checked checked_frame(const uint8_t *bytes, size_t count, uint64_t *numbers);
 struct checked checked_read(const uint8_t *bytes, size_t count, uint64_t *numbers);
 
+/* The request-id on 0. */
+struct checked checked_whose(const uint8_t *bytes, size_t count, uint64_t *id);
+
 /* Whether `written` bytes fit the room, none where the call is refused, and the bytes of out past them are as they were lent. */
 int checked_written(uint32_t number, const uint8_t *out, uint64_t written, size_t room);
 

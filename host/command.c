@@ -31,7 +31,7 @@ static char *next_part(char **rest) {
   return part;
 }
 
-/* frame, read and open HEX */
+/* frame, read, whose and open HEX */
 static void take_bytes(const struct script *s, struct command *c) { c->count = script_bytes(s, s->word[1], c->bytes); }
 
 /* message ROOM HEX */
@@ -144,12 +144,12 @@ static const struct {
   int fewest, most; /* words */
   void (*take)(const struct script *s, struct command *c);
 } commands[] = {
-    {"frame", COMMAND_FRAME, 2, 2, take_bytes},         {"read", COMMAND_READ, 2, 2, take_bytes},
-    {"open", COMMAND_OPEN, 2, 2, take_bytes},           {"message", COMMAND_MESSAGE, 3, 3, take_message},
-    {"report", COMMAND_REPORT, 3, 4, take_report},      {"respond", COMMAND_RESPOND, 7, 7, take_respond},
-    {"complete", COMMAND_COMPLETE, 5, 5, take_complete}, {"channel", COMMAND_CHANNEL, 5, 6, take_channel},
-    {"number", COMMAND_NUMBER, 3, 3, take_number},      {"numbers", COMMAND_NUMBERS, 1, 1, take_nothing},
-    {"show", COMMAND_SHOW, 1, 1, take_nothing},
+    {"frame", COMMAND_FRAME, 2, 2, take_bytes},       {"read", COMMAND_READ, 2, 2, take_bytes},
+    {"whose", COMMAND_WHOSE, 2, 2, take_bytes},       {"open", COMMAND_OPEN, 2, 2, take_bytes},
+    {"message", COMMAND_MESSAGE, 3, 3, take_message}, {"report", COMMAND_REPORT, 3, 4, take_report},
+    {"respond", COMMAND_RESPOND, 7, 7, take_respond}, {"complete", COMMAND_COMPLETE, 5, 5, take_complete},
+    {"channel", COMMAND_CHANNEL, 5, 6, take_channel}, {"number", COMMAND_NUMBER, 3, 3, take_number},
+    {"numbers", COMMAND_NUMBERS, 1, 1, take_nothing}, {"show", COMMAND_SHOW, 1, 1, take_nothing},
 };
 
 int command_next(struct script *s, struct command *c) {

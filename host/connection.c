@@ -42,8 +42,9 @@ int connection_accept(struct connection *c, int listener, int64_t now) {
 /* Bytes that are never received would reset the connection, and with that take back answers which the client has not
  * read yet. */
 static void drop_input(struct connection *c) {
+  static uint8_t dropped[KLARVESIMO_LONGEST_MESSAGE];
   ssize_t count = 1;
-  for (int i = 0; i < MOST_DROPPED && count > 0; i++) count = recv(c->socket, c->in, sizeof c->in, 0);
+  for (int i = 0; i < MOST_DROPPED && count > 0; i++) count = recv(c->socket, dropped, sizeof dropped, 0);
   if (count < 0 && !later(errno)) c->reset = 1; /* it is said but once */
 }
 
@@ -63,6 +64,14 @@ static int is_reset(struct connection *c) {
   return c->reset;
 }
 
+/* What came in vain, and whose the first message of it is, where its start line came. */
+static void say_not_handled(const struct connection *c) {
+  uint64_t id;
+  if (c->came == 0) return;
+  log_add("; %zu bytes came that were not handled", c->came);
+  if (klarvesimo_whose(c->in, c->came, &id) == 0) log_add(", from message %" PRIu64 " on", id);
+}
+
 /* Ends the closing where nothing more can be learned, or the time for it is over. */
 static void end_closing(struct connection *c, int64_t now) {
   uint64_t left = unacknowledged(c);
@@ -70,7 +79,7 @@ static void end_closing(struct connection *c, int64_t now) {
   if (!is_reset(c) && left > 0 && now < c->closed) return;
   log_begin();
   log_add("connection closed, %s%s", c->why, c->reset ? "; it was reset" : "");
-  if (c->came > 0) log_add("; %zu bytes came that were not handled", c->came);
+  say_not_handled(c);
   outbox_disconnect(&c->out, left > 0 ? left - 1 : 0, c->reset);
   log_end();
   close(c->socket);

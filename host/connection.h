@@ -53,8 +53,8 @@ void connection_serve(struct connection *c, uint64_t *channel, int64_t now);
  * client is there. */
 uint32_t connection_report(struct connection *c, uint64_t *channel, uint32_t cause, float score, int64_t now);
 
-/* Begins to close it; connection_serve ends that, and says why, how many bytes came that were not handled, and what
- * became of the messages. */
+/* Begins to close it; connection_serve ends that, and says why, how many bytes came that were not handled and from
+ * whose message on, and what became of the messages. */
 void connection_close(struct connection *c, const char *why, int64_t now);
 
 #endif

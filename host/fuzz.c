@@ -35,6 +35,8 @@ static struct checked run(const struct command *c) {
     return checked_frame(c->bytes, c->count, numbers);
   case COMMAND_READ:
     return checked_read(c->bytes, c->count, numbers);
+  case COMMAND_WHOSE:
+    return checked_whose(c->bytes, c->count, numbers);
   case COMMAND_OPEN:
     return checked_open(c->bytes, c->count);
   case COMMAND_MESSAGE:

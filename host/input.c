@@ -2,14 +2,17 @@
 
 #include <string.h>
 
-enum { GROUP = 7, MORE = 1 << GROUP, FITTED = 8 };
+enum { GROUP = 7, MORE = 1 << GROUP, FITTED = 128 };
 
-/* by the last three bits of the first byte */
-static const enum verb verbs[] = {COMMAND_FRAME,  COMMAND_READ,   COMMAND_OPEN,    COMMAND_MESSAGE,
-                                  COMMAND_REPORT, COMMAND_NUMBER, COMMAND_CHANNEL, COMMAND_SHOW};
+/* by what the first byte says */
+static const enum verb verbs[] = {COMMAND_FRAME,  COMMAND_READ,    COMMAND_OPEN, COMMAND_MESSAGE, COMMAND_REPORT,
+                                  COMMAND_NUMBER, COMMAND_CHANNEL, COMMAND_SHOW, COMMAND_WHOSE};
 enum { VERBS = sizeof verbs / sizeof *verbs };
 
-static int has_bytes(enum verb verb) { return verb == COMMAND_FRAME || verb == COMMAND_READ || verb == COMMAND_OPEN || verb == COMMAND_MESSAGE; }
+static int has_bytes(enum verb verb) {
+  return verb == COMMAND_FRAME || verb == COMMAND_READ || verb == COMMAND_WHOSE || verb == COMMAND_OPEN ||
+         verb == COMMAND_MESSAGE;
+}
 
 static int has_room(enum verb verb) { return verb == COMMAND_MESSAGE || verb == COMMAND_REPORT || verb == COMMAND_SHOW; }
 
@@ -52,7 +55,7 @@ static void next_bytes(struct input *in, int fitted, struct command *c) {
 int input_next(struct input *in, struct command *c) {
   if (in->left == 0) return 0;
   unsigned first = next_byte(in);
-  c->verb = verbs[first % VERBS];
+  c->verb = verbs[first % FITTED % VERBS];
   if (c->verb == COMMAND_REPORT) c->cause = (uint32_t)next_number(in), c->score = (uint32_t)next_number(in);
   if (c->verb == COMMAND_NUMBER) c->place = (size_t)(next_number(in) % KLARVESIMO_CHANNEL), c->value = next_number(in);
   for (size_t i = 0; c->verb == COMMAND_CHANNEL && i < KLARVESIMO_CHANNEL; i++) c->channel[i] = next_number(in);

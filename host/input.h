@@ -1,13 +1,14 @@
 /* A list of commands as bytes, the input of the fuzzer: any bytes are such a list.
  *
- * A command begins with a byte whose last three bits say which it is. Then come its numbers, each in groups of seven bits, the lowest first, with
- * the eighth bit set where another group follows; and its bytes, behind their count:
+ * A command begins with a byte whose last seven bits, modulo nine, say which it is. Then come its numbers, each in
+ * groups of seven bits, the lowest first, with the eighth bit set where another group follows; and its bytes, behind
+ * their count:
  *
  *    0 frame BYTES   1 read BYTES   2 open BYTES   3 message ROOM BYTES   4 report CAUSE SCORE ROOM
- *    5 number PLACE VALUE   6 channel VALUE... (64)   7 show ROOM, which asks what the channel holds
+ *    5 number PLACE VALUE   6 channel VALUE... (64)   7 show ROOM, which asks what the channel holds   8 whose BYTES
  *
  * A SCORE is its 32 bits. The name that is opened chooses the kind of the channel. A room is cut at INPUT_MOST_ROOM, a
- * count at what is there. Where the fourth bit of the first byte is set, the bytes get in front of them the opening
+ * count at what is there. Where the eighth bit of the first byte is set, the bytes get in front of them the opening
  * that fits, so that a change of their number leaves them a message. */
 #ifndef INPUT_H
 #define INPUT_H

@@ -29,7 +29,8 @@ static FILE *seed_of(const char *directory, unsigned number) {
 
 /* whether the command begins a seed: a conversation, or, where the one before is full, what belongs to none */
 static int begins(const struct command *c, int full) {
-  return c->verb == COMMAND_OPEN || c->verb == COMMAND_CHANNEL || (full && (c->verb == COMMAND_FRAME || c->verb == COMMAND_READ));
+  int belongs_to_none = c->verb == COMMAND_FRAME || c->verb == COMMAND_READ || c->verb == COMMAND_WHOSE;
+  return c->verb == COMMAND_OPEN || c->verb == COMMAND_CHANNEL || (full && belongs_to_none);
 }
 
 static int make_seeds(const char *directory, struct script s) {
@@ -55,7 +56,8 @@ static void write_numbers(const struct command *c) {
 }
 
 static void write_line(const struct command *c) {
-  static const char *const words[] = {[COMMAND_FRAME] = "frame", [COMMAND_READ] = "read", [COMMAND_OPEN] = "open"};
+  static const char *const words[] = {
+      [COMMAND_FRAME] = "frame", [COMMAND_READ] = "read", [COMMAND_WHOSE] = "whose", [COMMAND_OPEN] = "open"};
   if (c->verb == COMMAND_NUMBER) printf("number %zu %" PRIu64 "\n", c->place, c->value);
   if (c->verb == COMMAND_CHANNEL) write_numbers(c);
   if (c->verb == COMMAND_SHOW) puts("show");

@@ -63,11 +63,20 @@ static void play_read(const struct command *c) {
     puts("bad");
 }
 
+static void play_whose(const struct command *c) {
+  uint64_t id;
+  struct checked call = checked_whose(c->bytes, c->count, &id);
+  printf("whose %" PRIu32, call.number);
+  if (call.number == 0) printf(" %" PRIu64, id);
+  putchar('\n');
+  play_check(call.holds);
+}
+
 static void (*const plays[])(const struct command *c) = {
-    [COMMAND_FRAME] = play_frame,     [COMMAND_READ] = play_read,         [COMMAND_OPEN] = play_open,
-    [COMMAND_MESSAGE] = play_message, [COMMAND_REPORT] = play_report,     [COMMAND_RESPOND] = play_respond,
-    [COMMAND_COMPLETE] = play_complete, [COMMAND_CHANNEL] = play_channel, [COMMAND_NUMBER] = play_number,
-    [COMMAND_NUMBERS] = play_numbers, [COMMAND_SHOW] = play_show,
+    [COMMAND_FRAME] = play_frame,     [COMMAND_READ] = play_read,         [COMMAND_WHOSE] = play_whose,
+    [COMMAND_OPEN] = play_open,       [COMMAND_MESSAGE] = play_message,   [COMMAND_REPORT] = play_report,
+    [COMMAND_RESPOND] = play_respond, [COMMAND_COMPLETE] = play_complete, [COMMAND_CHANNEL] = play_channel,
+    [COMMAND_NUMBER] = play_number,   [COMMAND_NUMBERS] = play_numbers,   [COMMAND_SHOW] = play_show,
 };
 
 int main(int words, char **word) {

@@ -83,6 +83,16 @@ static void tell_read(const struct command *c) {
     puts("bad fields\n");
 }
 
+static void tell_whose(const struct command *c) {
+  uint64_t id;
+  write_arrow("whose:", c->bytes, c->count);
+  uint32_t number = klarvesimo_whose(c->bytes, c->count, &id);
+  if (number)
+    write_refused(number);
+  else
+    printf("   request-id %" PRIu64 "\n\n", id);
+}
+
 static void tell_open(const struct command *c) {
   uint32_t number = klarvesimo_open(channel, c->bytes, c->count);
   FILE *to = title_begin();
@@ -265,10 +275,10 @@ static void tell_show(const struct command *c) {
 }
 
 static void (*const tells[])(const struct command *c) = {
-    [COMMAND_FRAME] = tell_frame,       [COMMAND_READ] = tell_read,       [COMMAND_OPEN] = tell_open,
-    [COMMAND_MESSAGE] = tell_message,   [COMMAND_REPORT] = tell_report,   [COMMAND_RESPOND] = tell_respond,
-    [COMMAND_COMPLETE] = tell_complete, [COMMAND_CHANNEL] = tell_channel, [COMMAND_NUMBER] = tell_number,
-    [COMMAND_NUMBERS] = tell_numbers,   [COMMAND_SHOW] = tell_show,
+    [COMMAND_FRAME] = tell_frame,     [COMMAND_READ] = tell_read,         [COMMAND_WHOSE] = tell_whose,
+    [COMMAND_OPEN] = tell_open,       [COMMAND_MESSAGE] = tell_message,   [COMMAND_REPORT] = tell_report,
+    [COMMAND_RESPOND] = tell_respond, [COMMAND_COMPLETE] = tell_complete, [COMMAND_CHANNEL] = tell_channel,
+    [COMMAND_NUMBER] = tell_number,   [COMMAND_NUMBERS] = tell_numbers,   [COMMAND_SHOW] = tell_show,
 };
 
 int main(int words, char **word) {

@@ -183,6 +183,21 @@ enum {
 /* 0, 1 to 5, or 7. */
 uint32_t klarvesimo_read(const uint8_t *bytes, uint64_t count, uint64_t *out, uint64_t room, uint64_t *consumed);
 
+/* Whose request is it? The request-id of the message at the front of `bytes`, from its start line alone, so that it is
+ * known before fields and body have come: of requests, responses and events, whatever the version. On 0 it is in id[0];
+ * else that is as it was. Nothing is consumed.
+ *
+ *  - 2 and 4 are those of klarvesimo_frame. There is no 3: a message that is too long has an id too;
+ *  - 5, framed or not, where the line is malformed, or its CRLF is not among the first KLARVESIMO_LOOKED_AT bytes and
+ *    inside the stated length. Nothing past these is looked at;
+ *  - 1 where the CRLF has not come, and still may.
+ *
+ * The id, and a number other than 1, stay the same whatever bytes follow. Once the whole message has come,
+ * klarvesimo_read gives the same id, or the same 5; but 3 where it is too long. */
+enum { KLARVESIMO_LOOKED_AT = 128 };
+/* 0, 1, 2, 4 or 5. */
+uint32_t klarvesimo_whose(const uint8_t *bytes, uint64_t count, uint64_t *id);
+
 /* A channel is these 64 numbers, which the caller keeps and hands in again. Its name says of which kind it is: 1 to 32
  * ASCII letters or digits, then `@speechsynth` for a synthesizer or `@speechrecog` for a recognizer.
  *

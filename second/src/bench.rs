@@ -211,6 +211,16 @@ fn reads(case: &str, message: &[u8], count: usize) -> Option<usize> {
     Some(sum)
 }
 
+/// Asking whose request it is, of a message whose fields have not all come; the id.
+fn asks_whose(count: usize) -> Option<usize> {
+    let message = message_of("read-3")?;
+    let mut sum = 0;
+    for _ in 0..count {
+        sum += black_box(crate::whose(black_box(&message[..40]))).ok()? as usize;
+    }
+    Some(sum)
+}
+
 /// Opening a channel; the length of its name.
 fn opens(count: usize) -> usize {
     let mut sum = 0;
@@ -231,9 +241,10 @@ fn helds(count: usize) -> Option<usize> {
     Some(sum)
 }
 
-/// Makes the calls and gives the sum of the lengths; None for a case that there is not.
+/// Makes the calls and gives the sum of the lengths, or ids; None for a case that there is not.
 pub fn run(case: &str, count: usize) -> Option<usize> {
     match case {
+        "whose" => return asks_whose(count),
         "call-open" => return Some(opens(count)),
         "call-held-16" => return helds(count),
         _ => {}

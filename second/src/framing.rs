@@ -30,10 +30,11 @@ impl Frame<'_> {
     }
 }
 
-struct Opening {
-    version: Version,
-    stated: u64,
-    length: usize,
+pub struct Opening {
+    pub version: Version,
+    pub stated: u64,
+    /// How many bytes it has, as written.
+    pub length: usize,
 }
 
 /// "With an opening: 3, then 4, then 1 if fewer than the stated bytes are there."
@@ -59,7 +60,7 @@ pub fn frame(lent: &[u8]) -> Result<Frame<'_>, Refusal> {
 ///
 /// Every beginning that has fitted so far can be completed, so bytes that run
 /// out are 1 and a byte that does not fit is 2.
-fn opening(lent: &[u8]) -> Result<Opening, Refusal> {
+pub fn opening(lent: &[u8]) -> Result<Opening, Refusal> {
     let at = literal(lent, 0, b"MRCP/")?;
     let (major, at) = digits(lent, at, VERSION_DIGITS)?;
     let at = literal(lent, at, b".")?;

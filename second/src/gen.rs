@@ -12,6 +12,7 @@ mod folds;
 mod random;
 mod request;
 mod unsound;
+mod whose;
 mod wire;
 mod write;
 
@@ -31,6 +32,8 @@ pub enum Kind {
     Recog,
     /// Fields that go on in further lines, on both and read alone.
     Folds,
+    /// The request-id from the start line alone.
+    Whose,
     Write,
     All,
 }
@@ -43,6 +46,7 @@ impl Kind {
             "calls" => Some(Kind::Calls),
             "recog" => Some(Kind::Recog),
             "folds" => Some(Kind::Folds),
+            "whose" => Some(Kind::Whose),
             "write" => Some(Kind::Write),
             "all" => Some(Kind::All),
             _ => None,
@@ -73,6 +77,7 @@ fn fill(batch: &mut Batch, random: &mut Random, kind: Kind, turn: usize) {
         Kind::Calls => conversation::calls(batch, random, Resource::Synthesizer),
         Kind::Recog => conversation::calls(batch, random, Resource::Recognizer),
         Kind::Folds => folds::calls(batch, random),
+        Kind::Whose => whose::calls(batch, random),
         Kind::Write => write::writes(batch, random, turn),
         Kind::All => mixture(batch, random),
     }
@@ -80,11 +85,12 @@ fn fill(batch: &mut Batch, random: &mut Random, kind: Kind, turn: usize) {
 
 /// Some of each kind; a conversation is long, so it is drawn less often.
 fn mixture(batch: &mut Batch, random: &mut Random) {
-    match random.below(12) {
+    match random.below(13) {
         0 | 1 => (0..30).for_each(|_| wire::frames(batch, random)),
         2..=4 => (0..30).for_each(|_| wire::reads(batch, random)),
         5 | 6 => conversation::calls(batch, random, Resource::Recognizer),
         7 | 8 => (0..10).for_each(|_| folds::calls(batch, random)),
+        9 => (0..20).for_each(|_| whose::calls(batch, random)),
         _ => conversation::calls(batch, random, Resource::Synthesizer),
     }
 }

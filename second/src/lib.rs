@@ -22,6 +22,7 @@ pub mod script;
 pub mod start_line;
 pub mod states;
 pub mod tell;
+pub mod whose;
 pub mod writing;
 
 pub use calls::Outcome;
@@ -30,3 +31,4 @@ pub use framing::frame;
 pub use kept::Kept;
 pub use message::read;
 pub use refusal::Refusal;
+pub use whose::whose;

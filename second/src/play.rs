@@ -11,6 +11,7 @@ use crate::message::{read, Message};
 use crate::refusal::Refusal;
 use crate::script::{each_command, put_channel, put_hex, Command, Trouble, MOST_ROOM};
 use crate::start_line::StartLine;
+use crate::whose::whose;
 use crate::writing::{cause_word, Outgoing};
 
 /// The current channel, the ledger since its opening, and the bytes to lend.
@@ -127,6 +128,7 @@ fn perform(board: &mut Board, command: Command, text: &mut Vec<u8>) -> Result<()
     match command {
         Command::Frame(input) => put_framed(text, &input),
         Command::Read(input) => put_read(text, &input),
+        Command::Whose(input) => put_whose(text, &input),
         Command::Open(name) => put(text, &format!("open {}\n", board.open(&name))),
         Command::Message { room, input } => {
             let call = board.message(room, &input);
@@ -197,6 +199,13 @@ fn put_read(text: &mut Vec<u8>, input: &[u8]) {
                 Some(fields) => put_fields(text, fields),
             }
         }
+    }
+}
+
+fn put_whose(text: &mut Vec<u8>, input: &[u8]) {
+    match whose(input) {
+        Ok(id) => put(text, &format!("whose 0 {id}\n")),
+        Err(refusal) => put(text, &format!("whose {}\n", refusal.number())),
     }
 }
 

@@ -19,6 +19,7 @@ const MOST_ID: u64 = u64::MAX / 2;
 pub enum Command {
     Frame(Vec<u8>),
     Read(Vec<u8>),
+    Whose(Vec<u8>),
     Open(Vec<u8>),
     Message {
         room: usize,
@@ -94,6 +95,7 @@ pub fn command(line: &[u8]) -> Result<Option<Command>, String> {
     let command = match words[..] {
         [b"frame", bytes] => Command::Frame(hex(bytes)?),
         [b"read", bytes] => Command::Read(hex(bytes)?),
+        [b"whose", bytes] => Command::Whose(hex(bytes)?),
         [b"open", bytes] => Command::Open(hex(bytes)?),
         [b"message", room, bytes] => Command::Message {
             room: room_of(room)?,
@@ -120,9 +122,10 @@ pub fn command(line: &[u8]) -> Result<Option<Command>, String> {
     Ok(Some(command))
 }
 
-const COMMANDS: [&[u8]; 11] = [
+const COMMANDS: [&[u8]; 12] = [
     b"frame",
     b"read",
+    b"whose",
     b"open",
     b"message",
     b"report",

@@ -49,6 +49,16 @@ pub enum StartLine<'a> {
     },
 }
 
+impl StartLine<'_> {
+    pub fn id(&self) -> u32 {
+        match *self {
+            StartLine::Request { id, .. } => id,
+            StartLine::Response { id, .. } => id,
+            StartLine::Event { id, .. } => id,
+        }
+    }
+}
+
 /// What stands after the opening and before the line's CRLF. None: malformed.
 ///
 /// Parted at each space: a space too many leaves an empty word, and an empty

@@ -14,6 +14,7 @@ use crate::play::{Board, Call};
 use crate::refusal::Refusal;
 use crate::script::{each_command, put_channel, Command, Trouble};
 use crate::start_line::StartLine;
+use crate::whose::whose;
 use crate::writing::{cause_word, Outgoing};
 
 /// What became of a SPEAK or a RECOGNIZE.
@@ -67,6 +68,7 @@ impl Teller {
         match command {
             Command::Frame(input) => tell_framed(text, &input),
             Command::Read(input) => tell_read(text, &input),
+            Command::Whose(input) => tell_whose(text, &input),
             Command::Open(name) => self.open(text, &name),
             Command::Message { room, input } => return self.message(text, room, &input),
             Command::Report { cause, room, score } => {
@@ -311,6 +313,14 @@ fn tell_read(text: &mut String, input: &[u8]) {
     };
     let length = message.length;
     text.push_str(&format!("   {kind} of {length} bytes, {rest}\n\n"));
+}
+
+fn tell_whose(text: &mut String, input: &[u8]) {
+    text.push_str(&arrow("whose:", input));
+    match whose(input) {
+        Ok(id) => text.push_str(&format!("   request-id {id}\n\n")),
+        Err(refusal) => text.push_str(&refused(refusal.number())),
+    }
 }
 
 fn channel_words(board: &Board) -> String {

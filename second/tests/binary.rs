@@ -75,6 +75,9 @@ fn the_lines_of_each_command() {
             format!("read {}", hex("MRCP/2.0 28 E 9 PENDING|x|")),
             "read 0 28 event 2 0 E 9 PENDING\nbad\n".to_string(),
         ),
+        (format!("whose {speak}"), "whose 0 7\n".to_string()),
+        (format!("whose {}", hex("MRCP/2.0 99999 STOP 7|")), "whose 0 7\n".to_string()),
+        ("whose -".to_string(), "whose 1\n".to_string()),
         ("show".to_string(), "channel - idle - -\n".to_string()),
         (format!("message 305 {speak}"), "message 21 0 -\n".to_string()),
         ("open 78".to_string(), "open 10\n".to_string()),
@@ -127,6 +130,10 @@ const UNREADABLE: &[&str] = &[
     " ",
     "Frame 4d",
     "read",
+    "whose",
+    "whose 4D",
+    "whose 4",
+    "whose 4d 4d",
     "open",
     "open 1",
     "message 305",
@@ -346,7 +353,7 @@ fn calls(script: &str) -> usize {
 
 #[test]
 fn what_is_made_is_the_same_each_time_and_plays() {
-    for kind in ["frame", "read", "calls", "recog", "folds", "all"] {
+    for kind in ["frame", "read", "calls", "recog", "folds", "whose", "all"] {
         for seed in ["0", "1", "2", "77", "18446744073709551615"] {
             let words = ["gen", seed, "3000", kind];
             let made = second(&words, b"");

@@ -1,5 +1,5 @@
 -- Demands 1 to 3 as C sees them: over what each function of include/klarvesimo.h returns, and leaves in every array
--- that is lent to it. Document 01, "Refusal numbers" and "How tight the promises are".
+-- that is lent to it. Document 01, "Refusal numbers" and "How tight the promises are", and document 02, K1 and K3.
 use Prim.Native.Nat.{ℕ, _≤_}
 use mathlib.Core.Path.{_≡_}
 use mathlib.Core.Bool.{true, not}
@@ -15,6 +15,10 @@ use Rattle.framing.specs.declared.Framing.the-variants.{More, NoMessage, TooLon
 use Rattle.message.specs.Message.{Reading, refused, message}
 use Rattle.message.specs.Reading.{reading, messagesIn}
 use Rattle.message.specs.declared.Span.{Span}
+use Rattle.whose.specs.Whose as F
+use Rattle.whose.specs.Whose.{whose, Told, whoseFace}
+use Rattle.whose.specs.declared.Whose.{Whose}
+use Rattle.whose.specs.declared.Whose.the-variants as W
 use Rattle.messagenumbers.specs.Layout.{Face, messageNumbers}
 use Rattle.firmware.specs.Face.{frameFace, readFace, ReadCall, called}
 use Rattle.ledger.specs.Ledger.{Exchange, Balanced, Run, Turn, after, trace, accepted, closed}
@@ -37,13 +41,15 @@ pub data FromC : Type 0 where
   opens : (name : List ℕ) → FromC  -- klarvesimo_open
   frames : (s out : List ℕ) → FromC  -- klarvesimo_frame
   reads : (s out consumed : List ℕ) → FromC  -- klarvesimo_read
+  asks : (s id : List ℕ) → FromC  -- klarvesimo_whose
   on : (ws : List ℕ) → OnChannel → FromC
 
--- as many places for counts as include/klarvesimo.h asks for
+-- as many places for counts and for an id as include/klarvesimo.h asks for
 abbrev pub Places : FromC → Type 0
 Places (opens name) = Unit {0}
 Places (frames s out) = Unit {0}
 Places (reads s out consumed) = length consumed ≡ 1
+Places (asks s id) = length id ≡ 1
 Places (on ws (handles s out counts)) = length counts ≡ 2
 Places (on ws (reports cause score out written)) = length written ≡ 1
 Places (on ws (lists ids count)) = length count ≡ 1
@@ -53,6 +59,7 @@ abbrev pub Returned : FromC → Type 0
 Returned (opens name) = OpenFace
 Returned (frames s out) = Face
 Returned (reads s out consumed) = ReadCall
+Returned (asks s id) = Told
 Returned (on ws (handles s out counts)) = HandleCall
 Returned (on ws (reports cause score out written)) = ReportCall
 Returned (on ws (lists ids count)) = HeldCall
@@ -62,6 +69,7 @@ abbrev pub returned : (c : FromC) → Returned c
 returned (opens name) = openFace name
 returned (frames s out) = frameFace s out
 returned (reads s out consumed) = called consumed (readFace s out)
+returned (asks s id) = whoseFace s id
 returned (on ws (handles s out counts)) = counted counts (callFace ws (input s) out)
 returned (on ws (reports cause score out written)) = reported written (callFace ws (report cause score) out)
 returned (on ws (lists ids count)) = listed count (heldFace ws ids)
@@ -87,6 +95,14 @@ abbrev pub numbersIn : List ℕ → Reading Span → List ℕ
 numbersIn s (refused number consumed) = []
 numbersIn s (message h st fs) = messageNumbers (take (h .stated) s) h st fs
 
+-- the request-id that is told
+abbrev pub idNumbers : Whose → List ℕ
+idNumbers W.More = []
+idNumbers W.NoMessage = []
+idNumbers W.TooShort = []
+idNumbers W.Malformed = []
+idNumbers (W.Id i) = i ∷ []
+
 -- The table of refusals of the whole C face: the lines of each function, in the order in which they go before each
 -- other.
 unfoldable pub refusals : FromC → List Line
@@ -108,6 +124,12 @@ refusals (reads s out consumed) =
     ∷ given 5 (malformedIn s (framing s)) (stated (input s))
     ∷ given 7 (ltb (length out) (length (numbersIn s (reading s)))) 0
     ∷ []
+refusals (asks s id) =
+    given 2 (eqb (F.refusal (whose s)) 2) 0
+    ∷ given 4 (eqb (F.refusal (whose s)) 4) 0
+    ∷ given 1 (eqb (F.refusal (whose s)) 1) 0
+    ∷ given 5 (eqb (F.refusal (whose s)) 5) 0
+    ∷ []
 refusals (on ws (handles s out counts)) = table (channelIn ws) (input s) (length out)  -- 21, 1 to 6, 7
 refusals (on ws (reports cause score out written)) = table (channelIn ws) (report cause score) (length out)  -- 21, 9, 11, 8, 7
 refusals (on ws (lists ids count)) =
@@ -125,6 +147,7 @@ abbrev pub refusedBy : Line → (c : FromC) → Returned c
 refusedBy l (opens name) = record { number = l .number; channel = numbersOf (fresh []) }
 refusedBy l (frames s out) = record { number = l .number; out = out }
 refusedBy l (reads s out consumed) = record { number = l .number; consumed = l .consumed ∷ []; out = out }
+refusedBy l (asks s id) = record { number = l .number; id = id }
 refusedBy l (on ws (handles s out counts)) =
     record { number = l .number; channel = ws; counts = l .consumed ∷ 0 ∷ []; out = out }
 refusedBy l (on ws (reports cause score out written)) = record { number = l .number; channel = ws; written = 0 ∷ []; out = out }
@@ -137,6 +160,7 @@ answered (opens name) = record { number = 0; channel = numbersOf (fresh name) }
 answered (frames s out) = record { number = 0; out = atFront (frameNumbers (framing s)) out }
 answered (reads s out consumed) =
     record { number = 0; consumed = stated (input s) ∷ []; out = atFront (numbersIn s (reading s)) out }
+answered (asks s id) = record { number = 0; id = idNumbers (whose s) }
 answered (on ws (handles s out counts)) =
     let v : View = channelIn ws in
     record {

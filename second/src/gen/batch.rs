@@ -30,6 +30,11 @@ impl Batch {
         self.hex(bytes);
     }
 
+    pub fn whose(&mut self, bytes: &[u8]) {
+        self.text.extend_from_slice(b"whose ");
+        self.hex(bytes);
+    }
+
     pub fn open(&mut self, name: &[u8]) {
         self.text.extend_from_slice(b"open ");
         self.hex(name);

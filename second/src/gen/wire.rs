@@ -99,7 +99,7 @@ fn sample_cut(random: &mut Random) -> Vec<u8> {
 }
 
 /// An opening alone: as stated lengths and versions go, with its last space.
-fn opening(random: &mut Random) -> Vec<u8> {
+pub fn opening(random: &mut Random) -> Vec<u8> {
     let mut draft = Draft::new(Vec::new());
     draft.line_end.clear();
     draft.end.clear();
@@ -153,7 +153,7 @@ fn long_message(random: &mut Random) -> Vec<u8> {
 }
 
 /// One byte changed at every place of a message, one place after the other.
-fn changed_everywhere(bytes: &[u8], random: &mut Random, mut put: impl FnMut(&[u8])) {
+pub fn changed_everywhere(bytes: &[u8], random: &mut Random, mut put: impl FnMut(&[u8])) {
     let mut changed = bytes.to_vec();
     for place in 0..changed.len() {
         let byte = changed[place];

@@ -1,4 +1,4 @@
--- DEMAND 1 OF THE C FACE. Every call of the six functions, on any 64 numbers, with any input or cause and any output,
+-- DEMAND 1 OF THE C FACE. Every call of the seven functions, on any 64 numbers, with any input or cause and any output,
 -- returns and leaves what the table of refusals says; a refusal leaves all but the counts as it was. Assumes nothing.
 use Prim.Native.Nat.{ℕ}
 use mathlib.Core.Path.{_≡_, refl, sym, ap, _∙_}
@@ -15,6 +15,9 @@ use Rattle.message.specs.Message.{Start, Head, Reading, refused, message}
 use Rattle.message.specs.StartLines.{Started, started, startLine}
 use Rattle.message.specs.Reading.{fieldsFrom, readFrom, readFramed, reading}
 use Rattle.message.specs.declared.Span.{Span}
+use Rattle.whose.specs.Whose.{whose, whoseFace}
+use Rattle.whose.specs.declared.Whose.{Whose}
+use Rattle.whose.specs.declared.Whose.the-variants as W
 use Rattle.messagenumbers.specs.Layout.{messageNumbers}
 use Rattle.firmware.specs.Face.{framed, frameFace, ReadFace, consuming, readAs, readFace, called}
 use Rattle.synth.specs.Channel.{View, wellNamed, sound, held}
@@ -22,8 +25,8 @@ use Rattle.synth.specs.Calls.{input, report, openChannel}
 use Rattle.channelnumbers.specs.Numbers.{numbersOf, viewOf}
 use Rattle.klarvesimo.specs.Face.{openFace, HeldFace, fitting, heldOn, heldFace, counted, reported, listed}
 use Rattle.demands.specs.Demands.{Line, given, table, firstDue, outcome, exact, stated}
-use Rattle.demands.specs.FromC.{FromC, opens, frames, reads, on, handles, reports, lists, Places, returned}
-use Rattle.demands.specs.FromC.{refusals, seenAs, channelIn, frameNumbers, numbersIn, atFront, byLine, Demand1OfTheFace}
+use Rattle.demands.specs.FromC.{FromC, opens, frames, reads, asks, on, handles, reports, lists, Places, returned}
+use Rattle.demands.specs.FromC.{refusals, seenAs, channelIn, frameNumbers, numbersIn, idNumbers, atFront, byLine, Demand1OfTheFace}
 use Rattle.demands.proofs.Faces.{handed-long, handed-fits, one-place, two-places, nameless}
 use Rattle.demands.proofs.Faces.{lineFace, call-by-table}
 
@@ -122,6 +125,19 @@ module _ (s out consumed : List ℕ) (place : length consumed ≡ 1) where
   unfolding reading
   read-tabled = read-framed (framing s) refl refl
 
+-- whose request it is, by its cases
+module _ (s id : List ℕ) (place : length id ≡ 1) where
+  by-whose : (w : Whose) → whose s ≡ w → Tabled (asks s id)
+  unfolding whoseFace refusals
+  by-whose W.More e = rw (e, whoseFace, refusals)
+  by-whose W.NoMessage e = rw (e, whoseFace, refusals)
+  by-whose W.TooShort e = rw (e, whoseFace, refusals)
+  by-whose W.Malformed e = rw (e, whoseFace, refusals)
+  by-whose (W.Id i) e =
+      by (asks s id) none (rw (e, refusals))
+      (rw (e, whoseFace) (λ j. record { number = 0; id = one-place id i place j })
+      ∙ ap (λ (w : Whose). record { number = 0; id = idNumbers w }) (sym e))
+
 -- handling and reporting, by the line that is due
 module _ (ws out : List ℕ) where
   handled : (s counts : List ℕ) → length counts ≡ 2 → (o : Option Line)
@@ -191,6 +207,7 @@ module _ (ws ids count : List ℕ) (place : length count ≡ 1) where
 pub demand1-of-the-face : Demand1OfTheFace
 demand1-of-the-face (opens name) p = opening name
 demand1-of-the-face (frames s out) p = by-framing s out (framing s) refl
+demand1-of-the-face (asks s id) p = by-whose s id p (whose s) refl
 demand1-of-the-face (reads s out consumed) p = read-tabled s out consumed p
 demand1-of-the-face (on ws (handles s out counts)) p =
     ap (counted counts) (call-by-table ws (input s) out)

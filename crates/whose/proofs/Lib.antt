@@ -1,0 +1,5 @@
+pub mod Lines
+pub mod Ways
+pub mod Looking
+pub mod Theorems
+mod Told

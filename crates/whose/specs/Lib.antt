@@ -1,0 +1,2 @@
+pub mod Whose
+pub mod Steps
