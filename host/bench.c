@@ -1,5 +1,8 @@
 /* bench CASE COUNT: makes COUNT calls of one case, for a tool that counts instructions. The cases are those of the second program's `bench`.
  * bench CASE stack: the bytes of stack that one such call takes.
+ * bench RUN-NN-digits COUNT: calls that end behind a run of NN digits; RUN-NN-others: the same with letters in their
+ * place, so that they end in front of them. RUN is id, a request-id; length, a stated length; or content, a
+ * Content-Length.
  * bench channel: the bytes of a channel. */
 #include <inttypes.h>
 #include <stdio.h>
@@ -103,11 +106,13 @@ static void prepare_by(void (*call)(void)) {
   memcpy(prepared, channel, ALL);
 }
 
-/* a channel with this many outstanding, from 1 on */
-static void prepare(unsigned outstanding) {
+/* a channel with this many outstanding, from `first` on */
+static void prepare_from(unsigned first, unsigned outstanding) {
   prepare_by(opens);
-  for (unsigned id = 1; id <= outstanding; id++) speak(id), prepare_by(handles);
+  for (unsigned i = 0; i < outstanding; i++) speak(first + i), prepare_by(handles);
 }
+
+static void prepare(unsigned outstanding) { prepare_from(1, outstanding); }
 
 /* a recognizer with this many outstanding, from `first` on */
 static void prepare_recognizer(const char *named, unsigned first, unsigned outstanding) {
@@ -153,10 +158,17 @@ static void longest_ids(void) {
 static void call_speak(void) { prepare(0), read_3(); }
 static void call_folds(void) { prepare(0), read_folds(); }
 static void call_stop(void) { prepare(16), request("STOP", 17, "\r\n"); }
-static void call_stop_list(void) {
-  prepare(16);
-  request("STOP", 17, "Active-Request-Id-List:16,15,14,13,12,11,10,9,8,7,6,5,4,3,2,1\r\n\r\n");
+/* STOP that lists 16, last first */
+static void stop_list(unsigned first) {
+  char fields[300] = "Active-Request-Id-List:";
+  size_t at = strlen(fields);
+  for (unsigned i = 16; i > 0; i--)
+    at += (size_t)snprintf(fields + at, sizeof fields - at, "%u%s", first + i - 1, i > 1 ? "," : "\r\n\r\n");
+  prepare_from(first, 16);
+  request("STOP", first + 16, fields);
 }
+static void call_stop_list(void) { stop_list(1); }
+static void call_stop_list_of_ten(void) { stop_list(4000000000); }
 static void call_recognize(void) { prepare_recognizer(RECOGNIZER_NAME, 0, 0), recognize(7); }
 static void call_stop_8(void) { prepare_recognizer(RECOGNIZER_NAME, 1, 8), request("STOP", 9, "\r\n"); }
 static void eight_longest(void) { prepare_recognizer(LONGEST_RECOGNIZER_NAME, UINT32_MAX - 8, 8); }
@@ -177,6 +189,13 @@ static inline uint64_t sum_of(void (*call)(void), const uint64_t *gives, int cha
   return sum;
 }
 
+/* the sum of the numbers that so many calls give */
+static inline uint64_t numbers_of(void (*call)(void), long count) {
+  uint64_t sum = 0;
+  for (long i = 0; i < count; i++) call(), sum += number;
+  return sum;
+}
+
 /* a loop for each, so that what is counted beside the call is little */
 static uint64_t run_frames(long count) { return sum_of(frames, numbers + KLARVESIMO_FRAME_LENGTH, 0, count); }
 static uint64_t run_reads(long count) { return sum_of(reads, counts, 0, count); }
@@ -188,6 +207,8 @@ static uint64_t run_handles(long count) { return sum_of(handles, counts + KLARVE
 static uint64_t run_reports(long count) { return sum_of(reports, counts, 1, count); }
 static uint64_t run_reports_failure(long count) { return sum_of(reports_failure, counts, 1, count); }
 static uint64_t run_asks_held(long count) { return sum_of(asks_held, counts, 0, count); }
+static uint64_t run_frame_numbers(long count) { return numbers_of(frames, count); }
+static uint64_t run_read_numbers(long count) { return numbers_of(reads, count); }
 
 static const struct bench {
   const char *name;
@@ -210,6 +231,7 @@ static const struct bench {
     {"call-folds", call_folds, handles, run_handles},
     {"call-stop-16", call_stop, handles, run_handles},
     {"call-stop-list-16", call_stop_list, handles, run_handles},
+    {"call-stop-list-10", call_stop_list_of_ten, handles, run_handles},
     {"call-report-1", one_outstanding, reports, run_reports},
     {"call-report-16", sixteen_outstanding, reports, run_reports},
     {"call-held-16", sixteen_outstanding, asks_held, run_asks_held},
@@ -220,16 +242,43 @@ static const struct bench {
     {"call-after-1000", call_after_1000, handles, run_handles},
 };
 
+/* a message of 100 bytes with a run of digits in it, or of letters, and what follows */
+static const struct run {
+  const char *name, *front, *behind;
+  uint64_t (*run)(long count);
+} runs[] = {
+    {"id", "MRCP/2.0 100 SPEAK ", "x\r\n\r\n", run_read_numbers},
+    {"length", "MRCP/2.0 ", "x", run_frame_numbers},
+    {"content", "MRCP/2.0 100 SPEAK 7\r\nContent-Length:", "\r\n\r\n", run_read_numbers},
+};
+
+/* the run of a case, whose message is made; NULL for another case */
+static const struct run *run_of(const char *name) {
+  static const char digits[] = "1234567890123456789", others[] = "xxxxxxxxxxxxxxxxxxx";
+  char kind[8], what[7], text[101];
+  int many;
+  if (sscanf(name, "%7[a-z]-%2d-%6s", kind, &many, what) != 3 || many < 1 || many > 19) return NULL;
+  for (const struct run *r = runs; r < runs + sizeof runs / sizeof *runs; r++)
+    if (strcmp(kind, r->name) == 0) {
+      snprintf(text, sizeof text, "%s%.*s%s", r->front, many, what[0] == 'd' ? digits : others, r->behind);
+      message_is(text, 100);
+      return r;
+    }
+  return NULL;
+}
+
 static const struct bench *case_of(const char *name) {
   for (size_t i = 0; i < sizeof cases / sizeof *cases; i++)
     if (strcmp(name, cases[i].name) == 0) return &cases[i];
   return NULL;
 }
 
-static char usage[600]; /* with the cases in it */
+static char usage[800]; /* with the cases in it */
 
 static void make_usage(void) {
-  static const char words[] = "usage: bench CASE COUNT, bench CASE stack, or bench channel, where CASE is";
+  static const char words[] =
+      "usage: bench CASE COUNT, bench CASE stack, or bench channel, where CASE is RUN-NN-digits or RUN-NN-others, "
+      "RUN being id, length or content and NN 01 to 19, or";
   size_t at = (size_t)snprintf(usage, sizeof usage, "%s", words);
   for (size_t i = 0; i < sizeof cases / sizeof *cases && at < sizeof usage; i++)
     at += (size_t)snprintf(usage + at, sizeof usage - at, " %s", cases[i].name);
@@ -245,7 +294,10 @@ int main(int words, char **word) {
   make_usage();
   usage_if_asked(words, word, usage);
   if (words == 2 && strcmp(word[1], "channel") == 0) return printf("%zu\n", (size_t)ALL) < 0;
-  const struct bench *b = words == 3 ? case_of(word[1]) : NULL;
+  if (words != 3) return wrong_words();
+  const struct run *r = run_of(word[1]);
+  if (r) return printf("%" PRIu64 "\n", r->run(atol(word[2]))) < 0;
+  const struct bench *b = case_of(word[1]);
   if (!b) return wrong_words();
   b->make();
   if (strcmp(word[2], "stack") != 0) return printf("%" PRIu64 "\n", b->run(atol(word[2]))) < 0;

@@ -50,8 +50,8 @@
  *  - arrays of uint64_t aligned to 8 bytes, as C compilers do. Bytes may begin anywhere: on ARM they are also loaded by
  *    words that are not aligned, so the processor must take that: as a Cortex-M4 does unless CCR.UNALIGN_TRP is set,
  *    and a Cortex-A in normal memory unless SCTLR.A is set;
- *  - at most 4 KB of stack. No call takes more of it, whatever is lent, than 3,240 bytes on x86-64, 3,264 on aarch64,
- *    2,872 on arm, 2,936 on thumbv7em; what the functions named above take for themselves comes on top of that;
+ *  - at most 4 KB of stack. No call takes more of it, whatever is lent, than 3,488 bytes on x86-64, 3,408 on aarch64,
+ *    2,832 on arm, 3,040 on thumbv7em; what the functions named above take for themselves comes on top of that;
  *  - on x86-64 the red zone of that ABI: up to 128 bytes below the stack pointer are in use, so what interrupts a call
  *    and runs on its stack must leave them as they are. There is none on ARM;
  *  - floating-point numbers as C begins with them: rounded to nearest, and subnormal ones taken as they are. So it is

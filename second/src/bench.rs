@@ -132,10 +132,22 @@ fn prepared_by(name: &str, calls: impl Iterator<Item = Call>) -> Option<Kept> {
     Some(channel)
 }
 
-/// A synthesizer with this many outstanding, from 1 on.
-fn prepared(outstanding: u32) -> Option<Kept> {
-    let speaks = (1..=outstanding).map(|id| Call::Message(speak(id)));
+/// A synthesizer with this many outstanding, from this id on.
+fn prepared_from(first: u32, outstanding: u32) -> Option<Kept> {
+    let speaks = (first..first + outstanding).map(|id| Call::Message(speak(id)));
     prepared_by(NAME, speaks)
+}
+
+fn prepared(outstanding: u32) -> Option<Kept> {
+    prepared_from(1, outstanding)
+}
+
+/// STOP that lists sixteen, the last first.
+fn stop_list(first: u32) -> Option<(Kept, Call)> {
+    let ids: Vec<String> = (first..first + 16).rev().map(|id| id.to_string()).collect();
+    let list = format!("Active-Request-Id-List:{}\r\n\r\n", ids.join(","));
+    let stop = request(NAME, "STOP", first + 16, &list);
+    Some((prepared_from(first, 16)?, Call::Message(stop)))
 }
 
 /// A recognizer with eight outstanding, from this id on.
@@ -159,13 +171,13 @@ fn prepared_after(calls: u32) -> Option<Kept> {
 
 /// The channel before the call, and the call.
 fn call_of(case: &str) -> Option<(Kept, Call)> {
-    let list = "Active-Request-Id-List:16,15,14,13,12,11,10,9,8,7,6,5,4,3,2,1\r\n\r\n";
     let message = |name, method, id, rest| Call::Message(request(name, method, id, rest));
     Some(match case {
         "call-speak" => (prepared(0)?, Call::Message(message_of("read-3")?)),
         "call-folds" => (prepared(0)?, Call::Message(FOLDED.into())),
         "call-stop-16" => (prepared(16)?, message(NAME, "STOP", 17, "\r\n")),
-        "call-stop-list-16" => (prepared(16)?, message(NAME, "STOP", 17, list)),
+        "call-stop-list-16" => stop_list(1)?,
+        "call-stop-list-10" => stop_list(4_000_000_000)?,
         "call-report-1" => (prepared(1)?, Call::Report(0)),
         "call-report-16" => (prepared(16)?, Call::Report(0)),
         "call-recognize" => (
@@ -221,6 +233,41 @@ fn asks_whose(count: usize) -> Option<usize> {
     Some(sum)
 }
 
+/// A message of 100 bytes with a run of so many digits in it, or of letters: the
+/// call ends behind the digits, or in front of the letters.
+fn run_of(case: &str) -> Option<Vec<u8>> {
+    let mut words = case.split('-');
+    let (front, behind) = match words.next()? {
+        "id" => ("MRCP/2.0 100 SPEAK ", "x\r\n\r\n"),
+        "length" => ("MRCP/2.0 ", "x"),
+        "content" => ("MRCP/2.0 100 SPEAK 7\r\nContent-Length:", "\r\n\r\n"),
+        _ => return None,
+    };
+    let many: usize = words.next()?.parse().ok()?;
+    let run = match words.next()? {
+        "digits" => "1234567890123456789",
+        _ => "xxxxxxxxxxxxxxxxxxx",
+    };
+    let mut message = format!("{front}{}{behind}", run.get(..many)?).into_bytes();
+    message.resize(100, b'H');
+    Some(message)
+}
+
+/// The sum of the numbers of the refusals.
+fn refusals(case: &str, message: &[u8], count: usize) -> usize {
+    let mut sum = 0;
+    for _ in 0..count {
+        let lent = black_box(message);
+        let refused = if case.starts_with("length") {
+            black_box(crate::frame(lent)).err()
+        } else {
+            black_box(crate::read(lent)).err()
+        };
+        sum += refused.map_or(0, |refusal| refusal.number() as usize);
+    }
+    sum
+}
+
 /// Opening a channel; the length of its name.
 fn opens(count: usize) -> usize {
     let mut sum = 0;
@@ -248,6 +295,9 @@ pub fn run(case: &str, count: usize) -> Option<usize> {
         "call-open" => return Some(opens(count)),
         "call-held-16" => return helds(count),
         _ => {}
+    }
+    if let Some(message) = run_of(case) {
+        return Some(refusals(case, &message, count));
     }
     if let Some((name, answer)) = answer_of(case) {
         return write(&name, answer, count);

@@ -1,17 +1,17 @@
 -- The number that a text writes, by the digits at its front.
 -- Assumes nothing.
 use mathlib.Core.Path.{_≡_, refl, sym, ap, _∙_}
-use mathlib.Core.Bool.{true, false, _&&_}
+use mathlib.Core.Bool.{Bool, true, false, _&&_, false≢true}
 use mathlib.Core.List.{List, [], _∷_}
 use Prim.Native.Nat.{ℕ, zero, suc, _≤_, min}
 use native.Mathlib.Omega.{arith}
-use lib.Dec.{leb}
-use lib.ListN.{length, take}
+use lib.Dec.{eqb, leb}
+use lib.ListN.{length, take, getD}
 use lib.Seq.{take-all}
-use borrow.Author.Tests.{leb-true}
+use borrow.Author.Tests.{leb-true, eqb-true, eqb-false}
 use Rattle.lists.specs.Lists.{all, run}
-use Rattle.lists.proofs.Tests.{both, refuted}
-use Rattle.lists.proofs.Scans.{run-all}
+use Rattle.lists.proofs.Tests.{both, choose, refuted}
+use Rattle.lists.proofs.Scans.{run-all, run-in}
 use Rattle.octets.specs.Octets.{isDigit}
 use Rattle.readers.specs.Words.{isNumber, numberOf}
 use Rattle.readers.proofs.Positions.{run-yes}
@@ -25,11 +25,31 @@ run-whole (x ∷ v) a =
     let h = both (isDigit x) (all isDigit v) a in
     run-yes isDigit x v (h .0) ∙ ap suc (run-whole v (h .1))
 
+-- no digit stands behind a run; nor does one where the bytes end
+behind-run : (v : List ℕ) → isDigit (getD v (run isDigit v) 0) ≡ false
+behind-run [] = refl
+behind-run (x ∷ v) =
+    choose (λ k. isDigit (getD (x ∷ v) k 0) ≡ false) (isDigit x) (λ e. behind-run v) (λ e. e)
+
 -- the digits at the front of v, at most so many of them
 module _ (most : ℕ) (fits : most ≤ 19) (v : List ℕ) (d : Digits) (e : d ≡ digitsAt most v) where
   pub counts : d .count ≡ min (run isDigit v) most
   unfolding digitsAt
   counts = let c : d .count ≡ min (run isDigit v) (min most 19) = ap (λ d. d .count) e in omega arith
+
+  pub room : d .count ≤ length v
+  room = omega (arith, counts, run-in isDigit v)
+
+  -- a digit behind them is one too many
+  pub one-too-many : isDigit (getD v (d .count) 0) ≡ true → d .count ≡ most
+  one-too-many h = by-eqb (eqb (d .count) most) refl
+    where
+      by-eqb : (b : Bool) → eqb (d .count) most ≡ b → d .count ≡ most
+      by-eqb true e = eqb-true (d .count) most e
+      by-eqb false e =
+          let n = eqb-false (d .count) most e in
+          let all : d .count ≡ run isDigit v = omega (arith, counts, n) in
+          absurd (false≢true (sym (behind-run v) ∙ ap (λ k. isDigit (getD v k 0)) (sym all) ∙ h))
 
   pub writes : d .value ≡ numberOf (take (d .count) v)
   unfolding digitsAt

@@ -1,19 +1,21 @@
 -- How digits and numbers go on at a position of the bytes: one law for each way that a turn of the loop can go; and the
 -- number, by the digits that were read. Assumes nothing.
 use mathlib.Core.Path.{_≡_, refl, sym, ap, ap₂, _∙_}
-use mathlib.Core.Bool.{Bool, true, false}
+use mathlib.Core.Bool.{Bool, true, false, cond}
 use mathlib.Core.List.{List, [], _∷_}
 use Prim.Native.Nat.{ℕ, zero, suc, _+_, _-_, _*_, _^_, _<_, _≤_, min}
 use native.Mathlib.Nat.{min-zero, zero-min, suc-min-suc}
 use native.Mathlib.Nat.{add-assoc, add-zero, zero-add, not-suc-le-zero, pow-le-pow-right, le-of-suc-le-suc}
 use native.Mathlib.Numerals.{sub-one}
 use native.Mathlib.Omega.{arith}
-use lib.Dec.{eqb, lit≤}
-use lib.ListN.{length, getD, take, drop, drop-of-length-le}
-use borrow.Author.Tests.{eq-eqb, ne-eqb}
+use lib.Bits.{bitXor}
+use lib.Dec.{eqb, leb, ltb, lit≤}
+use lib.ListN.{length, getD, take, drop, length-drop, drop-of-length-le}
+use borrow.Author.Tests.{eq-eqb, ne-eqb, le-leb, lt-leb, lt-ltb}
 use Rattle.lists.specs.Lists.{run}
 use Rattle.lists.proofs.Tests.{choose}
 use Rattle.octets.specs.Octets.{isDigit}
+use Rattle.octets.proofs.Bits.{agree}
 use Rattle.readers.specs.Readers.{Read, short, wrong, got, after, digits, number}
 use Rattle.readers.specs.Words.{decimal}
 use Rattle.readers.proofs.Steps.{byte-yes, byte-no}
@@ -27,6 +29,24 @@ use Rattle.digits.specs.declared.Run.{Run}
 pub below-18 : (v k : ℕ) → v < 10 ^ k → k < 19 → v < 10 ^ 18
 below-18 v k h l = omega (arith, pow-le-pow-right {n = 10} (lit≤ tt) {i = k} {j = 18} (le-of-suc-le-suc l))
 
+-- ---- a byte's worth, by one computation over all 256
+
+abbrev worth : ℕ → ℕ
+worth b = bitXor b 48
+
+module _ (b : ℕ) (h : b < 256) where
+  tested : leb (worth b) 9 ≡ isDigit b
+  tested = agree (λ b. leb (worth b) 9) isDigit false 256 refl b h
+
+  valued : cond (isDigit b) (worth b) 0 ≡ cond (isDigit b) (b - 48) 0
+  valued = agree (λ b. cond (isDigit b) (worth b) 0) (λ b. cond (isDigit b) (b - 48) 0) 0 256 refl b h
+
+  pub worth-none : 9 < worth b → isDigit b ≡ false
+  worth-none l = sym tested ∙ lt-leb (worth b) 9 l
+
+  pub worth-some : worth b ≤ 9 → (isDigit b ≡ true) × (worth b ≡ b - 48)
+  worth-some l = let d = sym tested ∙ le-leb (worth b) 9 l in (d, rw d at valued)
+
 after-after : {A : Type 0} (a b : ℕ) (r : Read A) → after a (after b r) ≡ after (a + b) r
 after-after a b short = refl
 after-after a b wrong = refl
@@ -38,20 +58,51 @@ module _ (v : ℕ) (s : List ℕ) (i : ℕ) where
   pub run-end : (n : ℕ) → n ≡ 0 → runFrom n v i (drop i s) ≡ record { value = v; next = i; ended = false }
   run-end n e = rw e
 
-  pub run-short : (n : ℕ) → 0 < n → length s ≤ i
-      → runFrom n v i (drop i s) ≡ record { value = v; next = i; ended = true }
-  run-short zero h l = absurd (not-suc-le-zero h)
-  run-short (suc n) h l = rw (drop-of-length-le s l)
-
   pub run-stop : (n : ℕ) → 0 < n → i < length s → isDigit (getD s i 0) ≡ false
       → runFrom n v i (drop i s) ≡ record { value = v; next = i; ended = false }
   run-stop zero h l e = absurd (not-suc-le-zero h)
   run-stop (suc n) h l e = rw (here s i l, e, runFrom)
 
-  pub run-step : (n w : ℕ) → 0 < n → i < length s → isDigit (getD s i 0) ≡ true → w ≡ v * 10 + (getD s i 0 - 48)
-      → runFrom n v i (drop i s) ≡ runFrom (n - 1) w (i + 1) (drop (i + 1) s)
-  run-step zero w h l e q = absurd (not-suc-le-zero h)
-  run-step (suc n) w h l e q = rw (here s i l, q, sub-one, e, runFrom)
+  pub run-step : (n m w : ℕ) → n ≡ suc m → i < length s → isDigit (getD s i 0) ≡ true → w ≡ v * 10 + (getD s i 0 - 48)
+      → runFrom n v i (drop i s) ≡ runFrom m w (i + 1) (drop (i + 1) s)
+  run-step n m w k l e q = rw (k, here s i l, q, e, runFrom)
+
+-- ---- where fewer bytes are there than digits may come
+
+-- at the bytes' end or past it
+pub run-past : (n at : ℕ) (s : List ℕ) → length s ≤ at
+    → record { value = 0; next = at; ended = ltb 0 n } ≡ runFrom n 0 at (drop at s)
+run-past zero at s h = refl
+run-past (suc n) at s h = rw (drop-of-length-le s h, lt-ltb 0 (suc n) (omega arith))
+
+-- a run that ends where the bytes end shows that they do
+abbrev shown : ℕ → Run → Run
+shown end r = record { value = r .value; next = r .next; ended = eqb (r .next) end }
+
+-- past a byte: `all` comes after a digit where no more bytes are asked for than are there, and `rest` where more are
+past : (i k v : ℕ) (all rest : Run) (b : Bool) → shown (i + 1 + k) all ≡ rest
+    → (let stop : Run = record { value = v; next = i; ended = false } in
+    shown (i + suc k) (elim b [ true ↦ all | false ↦ stop ]) ≡ elim b [ true ↦ rest | false ↦ stop ])
+past i k v all rest true more = ap (λ end. shown end all) (omega arith) ∙ more
+past i k v all rest false more =
+    ap (λ e. record { value = v; next = i; ended = e }) (ne-eqb i (i + suc k) (omega arith))
+
+run-all : (n v i : ℕ) (l : List ℕ) → length l < n → shown (i + length l) (runFrom (length l) v i l) ≡ runFrom n v i l
+run-all zero v i l h = absurd (not-suc-le-zero h)
+run-all (suc n) v i [] h = ap (λ e. record { value = v; next = i; ended = e }) (eq-eqb i (i + 0) (sym (add-zero i)))
+run-all (suc n) v i (x ∷ l) h =
+    let w = v * 10 + (x - 48) in
+    past i (length l) v (runFrom (length l) w (i + 1) l) (runFrom n w (i + 1) l) (isDigit x)
+    (run-all n w (i + 1) l (le-of-suc-le-suc h))
+
+pub run-shown : (n at : ℕ) (s : List ℕ) (r : Run) → at ≤ length s → length s - at < n
+    → r ≡ runFrom (length s - at) 0 at (drop at s)
+    → record { value = r .value; next = r .next; ended = eqb (r .next) (length s) } ≡ runFrom n 0 at (drop at s)
+run-shown n at s r h k e =
+    let d = length-drop at s in
+    ap (shown (length s)) e
+    ∙ ap₂ (λ end m. shown end (runFrom m 0 at (drop at s))) (omega (arith, d)) (sym d)
+    ∙ run-all n 0 at (drop at s) (omega (arith, d))
 
 -- ---- what was read, as the definitions have it
 

@@ -1,7 +1,9 @@
 // Runs of digits, and the numbers that they write.
 ghost use mathlib.Core.Path.{_≡_};
-ghost use Prim.Native.Nat.{_+_, _-_, _*_, _^_, _≤_, _<_};
-ghost use lib.ListN.{drop};
+ghost use mathlib.Core.Bool.{true, false};
+ghost use Prim.Native.Nat.{_+_, _-_, _≤_, _<_};
+ghost use lib.ListN.{length, drop};
+ghost use Rattle.octets.specs.Octets.{isDigit};
 ghost use Rattle.readers.specs.Readers.{number as numberOf};
 ghost use Rattle.digits.specs.Steps.{scanned, atMost19, oneTo19, runFrom, digitsAt};
 
@@ -37,47 +39,62 @@ fn one_to_19(n: usize) -> usize
     if n < 1 { 1 } else { at_most_19(n) }
 }
 
-// The number that `value` and a digit behind it write.
-fn with_digit(value: u64, b: u8) -> u64
-    requires { ⌜ (value < 10 ^ 18) × (48 ≤ b) ⌝ }
-    ensures { λ r. ⌜ r ≡ value * 10 + (b - 48) ⌝ }
+// What a byte is worth as a digit; above 9 where it is none. So one operation gives both what is tested and what is
+// added: an instruction less for each digit than a difference of bytes, which has to be widened behind its test.
+fn digit_value(b: u8) -> u8
+    ensures { λ r. ⌜ (9 < r → isDigit b ≡ false) × (r ≤ 9 → (isDigit b ≡ true) × (r ≡ b - 48)) ⌝ }
 {
-    value * 10 + (b - 48) as u64
+    b ^ 48
 }
 
-// The digits at `at`, at most `most` of them. This loop is the one that reads digits.
-fn run_at(s: &[u8], at: usize, most: usize) -> Run
-    requires { ⌜ most ≤ 19 ⌝ }
-    ensures { λ r. ⌜ r ≡ runFrom most 0 at (drop at (now (s .entry))) ⌝ }
+// The digits from `at` up to `end`, as far as they go. This loop is the one that reads digits. Where `end` is a
+// constant further than `at`, the compiler lays its turns out in a row, and none asks where the bytes end.
+fn run_within(s: &[u8], at: usize, end: usize) -> Run
+    requires { ⌜ (at ≤ end) × (end ≤ length (now s)) × (end ≤ at + 19) ⌝ }
+    ensures { λ r. ⌜ r ≡ runFrom (end - at) 0 at (drop at (now (s .entry))) ⌝ }
 {
     let mut value: u64 = 0;
     let mut next = at;
-    let mut left = most;
-    while 0 < left {
-        if s.len() <= next {
-            return Run {
-                value,
-                next,
-                ended: true,
-            };
-        }
-        let b = s[next];
-        if !octets::is_digit(b) {
+    while next < end {
+        let d = digit_value(s[next]);
+        if 9 < d {
             return Run {
                 value,
                 next,
                 ended: false,
             };
         }
-        value = with_digit(value, b);
+        value = value * 10 + d as u64;
         next += 1;
-        left -= 1;
     }
     Run {
         value,
         next,
         ended: false,
     }
+}
+
+// The digits at `at`, at most `most` of them. Whether so many bytes are there is asked once, in front of them.
+fn run_at(s: &[u8], at: usize, most: usize) -> Run
+    requires { ⌜ most ≤ 19 ⌝ }
+    ensures { λ r. ⌜ r ≡ runFrom most 0 at (drop at (now (s .entry))) ⌝ }
+{
+    if s.len() < at {
+        return Run {
+            value: 0,
+            next: at,
+            ended: 0 < most,
+        };
+    }
+    if s.len() - at < most {
+        let run = run_within(s, at, s.len());
+        return Run {
+            value: run.value,
+            next: run.next,
+            ended: run.next == s.len(),
+        };
+    }
+    run_within(s, at, at + most)
 }
 
 // The digits at `at`, at most `most` of them, and never more than 19, which a u64 holds.

@@ -1,5 +1,9 @@
 // Cutting lent bytes into messages: document 01, "Framing".
 ghost use mathlib.Core.Path.{_≡_};
+ghost use mathlib.Core.List.{[], _∷_};
+ghost use lib.ListN.{drop};
+ghost use Rattle.readers.specs.Readers.{text as textOf};
+ghost use Rattle.readers.specs.Steps.{placed};
 ghost use Rattle.framing.specs.Framing.{opening, framing, measured};
 ghost use Rattle.framing.specs.Steps.{textAfter, numberAfter, valueOf, frontOf};
 
@@ -28,15 +32,28 @@ pub enum Framing {
     Frame(u64, u64, usize, usize),
 }
 
-// A text behind a number: a step that does nothing where the one before it found nothing, so that the steps need no
+// The byte `b` at `at`.
+fn byte_at(s: &[u8], at: usize, b: u8) -> readers::Place
+    ensures { λ r. ⌜ r ≡ placed at (textOf (b ∷ []) (drop at (now (s .entry)))) ⌝ }
+{
+    if s.len() <= at {
+        return readers::Place::Short;
+    }
+    if s[at] != b {
+        return readers::Place::Wrong;
+    }
+    readers::Place::At(at + 1)
+}
+
+// A byte behind a number: a step that does nothing where the one before it found nothing, so that the steps need no
 // branches between them.
-fn text_after(s: &[u8], n: digits::Scan, t: &[u8]) -> readers::Place
-    ensures { λ r. ⌜ r ≡ textAfter (now (s .entry)) n (now (t .entry)) ⌝ }
+fn byte_after(s: &[u8], n: digits::Scan, b: u8) -> readers::Place
+    ensures { λ r. ⌜ r ≡ textAfter (now (s .entry)) n (b ∷ []) ⌝ }
 {
     match n {
         digits::Scan::Short => readers::Place::Short,
         digits::Scan::Wrong => readers::Place::Wrong,
-        digits::Scan::Got(_, at) => readers::text(s, at, t),
+        digits::Scan::Got(_, at) => byte_at(s, at, b),
     }
 }
 
@@ -67,11 +84,11 @@ pub fn read_opening(s: &[u8]) -> Front
 {
     let mrcp = readers::text(s, 0, b"MRCP/");
     let major = number_after(s, mrcp, 2);
-    let dot = text_after(s, major, b".");
+    let dot = byte_after(s, major, b'.');
     let minor = number_after(s, dot, 2);
-    let space = text_after(s, minor, b" ");
+    let space = byte_after(s, minor, b' ');
     let stated = number_after(s, space, 19);
-    let end = text_after(s, stated, b" ");
+    let end = byte_after(s, stated, b' ');
     match end {
         readers::Place::Short => Front::Short,
         readers::Place::Wrong => Front::Wrong,

@@ -38,10 +38,10 @@ fn number(v: &[u8]) -> Stated
 {
     let d = digits::digits_at(v, 0, 19);
     let count = d.count;
-    if count == 0 {
+    if count != v.len() {
         return Stated::None;
     }
-    if count != v.len() {
+    if count == 0 {
         return Stated::None;
     }
     Stated::Number(d.value)

@@ -1,25 +1,25 @@
 -- Bits for the places of ids: what two lists name together, and one place more. As a number in base two the bits are `marks`.
 -- Assumes nothing.
-use Prim.Native.Nat.{ℕ, suc, _+_, _*_, _^_, _≤_, _<_}
-use native.Mathlib.Nat.{pow-suc, mul-assoc, mul-comm, mul-one, add-mul}
+use Prim.Native.Nat.{ℕ, suc, _+_, _*_, _^_, _<_, _≤_, min}
+use native.Mathlib.Nat.{pow-suc, mul-assoc, mul-comm, mul-one, add-mul, pow-le-pow-right}
 use native.Mathlib.Omega.{arith}
-use mathlib.Core.Path.{_≡_, refl, ap, _∙_}
-use mathlib.Core.Bool.{Bool, true, false, _||_, cond}
+use mathlib.Core.Path.{_≡_, refl, sym, ap, ap₂, _∙_}
+use mathlib.Core.Bool.{Bool, true, false, _||_, or-false, cond}
 use mathlib.Core.List.{List, [], _∷_, _++_}
 use lib.Bits.{bitOr, or-block}
 use lib.Dec.{eqb, lit<}
-use lib.ListN.{length, drop, getD, length-drop}
-use lib.Pow.{pow-mono}
-use lib.Seq.{drop-cons}
+use lib.ListN.{length, take, drop, getD, length-take, length-drop, drop-of-length-le}
+use lib.Seq.{getD-take}
 use Rattle.lists.specs.Lists.{elem}
 use Rattle.lists.proofs.Membership.{elem-append}
+use Rattle.readers.proofs.Positions.{here}
 use Rattle.idlist.specs.Named.{bitWhere, bitsFrom}
 
 abbrev marks : List ℕ → List ℕ → ℕ
 marks l [] = 0
 marks l (id ∷ ids) = marks l ids * 2 + cond (elem id l) 1 0
 
-bit-small : (b : Bool) → cond b 1 0 < 2
+pub bit-small : (b : Bool) → cond b 1 0 < 2
 bit-small true = lit< tt
 bit-small false = lit< tt
 
@@ -66,20 +66,32 @@ or-marks l m (id ∷ ids) =
 pub or-bits : (l m ids : List ℕ) → bitOr (bitsFrom 0 l ids) (bitsFrom 0 m ids) ≡ bitsFrom 0 (l ++ m) ids
 or-bits l m ids = rw (from-zero l ids, from-zero m ids, from-zero (l ++ m) ids) (or-marks l m ids)
 
--- ---- one place more, from behind
+-- ---- one place more, in front of those that were looked at
 
-or-false : (b : Bool) → (b || false) ≡ b
-or-false true = refl
-or-false false = refl
+one-more : (id x : ℕ) (ids : List ℕ)
+    → bitsFrom 0 (id ∷ []) ids * 2 + cond (eqb x id) 1 0 ≡ bitsFrom 0 (id ∷ []) (x ∷ ids)
+one-more id x ids = rw (from-zero (id ∷ []) ids, from-zero (id ∷ []) (x ∷ ids), or-false (eqb x id))
 
-module _ (id : ℕ) (ids : List ℕ) (j : ℕ) (h : j < length ids) where
-  pub next-place : bitsFrom 0 (id ∷ []) (drop j ids) ≡ bitsFrom 0 (id ∷ []) (drop (suc j) ids) * 2 + cond (eqb (getD ids j 0) id) 1 0
-  next-place =
-      ap (bitsFrom 0 (id ∷ [])) (drop-cons ids j 0 h) ∙ from-zero (id ∷ []) (getD ids j 0 ∷ drop (suc j) ids)
-      ∙ rw (← from-zero (id ∷ []) (drop (suc j) ids), or-false (eqb (getD ids j 0) id))
+module _ (id : ℕ) (ids : List ℕ) where
+  -- where id stands among the first 64, from the place j on
+  abbrev pub from : ℕ → ℕ
+  from j = bitsFrom 0 (id ∷ []) (drop j (take 64 ids))
 
--- no bit of those behind place j is lost
-pub room-left : (l ids : List ℕ) (j : ℕ) → length ids ≤ 64 → 1 ≤ j → bitsFrom 0 l (drop j ids) < 2 ^ 63
-room-left l ids j most some =
-    let few : length (drop j ids) ≤ 63 = rw (length-drop j ids) (omega arith) in
-    rw (from-zero l (drop j ids)) (omega (arith, marks-below l (drop j ids), pow-mono few))
+  pub from-end : (j : ℕ) → min (length ids) 64 ≤ j → 0 ≡ from j
+  from-end j h =
+      let l : length (take 64 ids) ≤ j = omega (arith, length-take 64 ids) in
+      rw (drop-of-length-le (take 64 ids) l)
+
+  pub from-more : (j k : ℕ) → j ≡ k + 1 → k < 64 → k < length ids
+      → from j * 2 + cond (eqb (getD ids k 0) id) 1 0 ≡ from k
+  from-more j k e h l =
+      ap₂ (λ j x. from j * 2 + cond (eqb x id) 1 0) e (sym (getD-take 64 ids k 0 h))
+      ∙ one-more id (getD (take 64 ids) k 0) (drop (k + 1) (take 64 ids))
+      ∙ ap (bitsFrom 0 (id ∷ [])) (sym (here (take 64 ids) k (omega (arith, length-take 64 ids))))
+
+  pub from-below : (j : ℕ) → 0 < j → from j < 2 ^ 63
+  from-below j h =
+      let l = drop j (take 64 ids) in
+      let few : length l ≤ 63 = omega (arith, length-drop j (take 64 ids), length-take 64 ids) in
+      let most = pow-le-pow-right {n = 2} (lit< tt) {i = length l} {j = 63} few in
+      omega (arith, from-zero (id ∷ []) l, marks-below (id ∷ []) l, most)

@@ -1,22 +1,27 @@
 -- One pass over a value finds what cutting it at its commas finds: what is left of the pass equals the whole, for each word begun.
 -- Assumes nothing.
-use Prim.Native.Nat.{ℕ, _+_, _*_, _-_, _≤_, _<_}
-use native.Mathlib.Numerals.{add-one}
+use Prim.Native.Nat.{ℕ, zero, suc, _+_, _*_, _-_, _≤_, _<_, min}
+use native.Mathlib.Nat.{min-zero, zero-min, suc-min-suc, add-zero, zero-add}
 use native.Mathlib.Omega.{arith}
 use mathlib.Core.Path.{_≡_, refl, sym, ap, ap₂, _∙_}
 use mathlib.Core.Bool.{Bool, true, false, not, _&&_, and-false}
 use mathlib.Core.List.{List, [], _∷_, _++_, map, append-assoc, append-nil}
 use mathlib.Core.Logic.{_≢_}
 use lib.Bits.{bitOr}
-use lib.Dec.{eqb, leb}
-use lib.ListN.{length, take, drop, getD, length-append, drop-of-length-le}
-use lib.Seq.{drop-cons}
-use borrow.Author.Tests.{eqb-true, eqb-false, eq-eqb, ne-eqb, le-leb, lt-leb, not-true, not-false}
-use Rattle.lists.specs.Lists.{all}
+use lib.Dec.{eqb, leb, lit≤}
+use lib.ListN.{length, take, drop, getD, length-append, length-drop, drop-of-length-le}
+use lib.Seq.{drop-drop, getD-drop}
+use borrow.Author.Tests.{eqb-true, eqb-false, eq-eqb, ne-eqb, leb-true, le-leb, lt-leb, not-true, not-false}
+use Rattle.lists.specs.Lists.{all, run}
 use Rattle.lists.proofs.Scans.{all-append}
+use Rattle.lists.proofs.Tests.{both, choose}
 use Rattle.octets.specs.Octets.{isDigit}
-use Rattle.readers.specs.Words.{words, onto, numberOf, isRequestId}
+use Rattle.readers.specs.Words.{words, onto, decimal, numberOf, isRequestId}
+use Rattle.readers.proofs.Positions.{apart, here}
 use Rattle.readers.proofs.Words.{begun, begun-onto, begun-none, decimal-append}
+use Rattle.digits.specs.Steps.{digitsAt}
+use Rattle.digits.specs.declared.Digits.{Digits}
+use Rattle.digits.proofs.Numerals.{counts, writes, room as digits-room, one-too-many}
 use Rattle.answer.specs.IdList.{isIdList, idsOf}
 use Rattle.idlist.specs.Named.{bitsFrom, inRange, namedIn}
 use Rattle.idlist.specs.declared.Which.{Which}
@@ -144,48 +149,103 @@ module _ (ids : List ℕ) where
   whole v =
       ap (λ b. left b 0 0 v) (sym (none-named (take 64 ids))) ∙ pass v [] [] refl (omega arith) ∙ ap (outcome []) (begun-none 44 v)
 
+-- ---- a word at once
+
+module _ (ids : List ℕ) (bits : ℕ) where
+  -- what is left behind k bytes that are digits
+  abbrev past : ℕ → ℕ → List ℕ → ℕ → Which
+  past value count s k = left ids bits (decimal value (take k s)) (count + k) (drop k s)
+
+  one-digit : (value count x : ℕ) (s : List ℕ) → isDigit x ≡ true → count ≢ 10
+      → left ids bits value count (x ∷ s) ≡ left ids bits (value * 10 + (x - 48)) (count + 1) s
+  one-digit value count x s e h = rw (apart isDigit 44 x refl e, e, ne-eqb count 10 h, left)
+
+  -- the digits that come, at most n, where n more may stand in the word
+  digits-left : (n value count : ℕ) (s : List ℕ) → count + n ≡ 10
+      → left ids bits value count s ≡ past value count s (min (run isDigit s) n)
+  digits-left zero value count s h = rw (min-zero (run isDigit s), add-zero)
+  digits-left (suc n) value count [] h = rw (zero-min (suc n), add-zero)
+  digits-left (suc n) value count (x ∷ s) h =
+      let k = min (run isDigit s) n in
+      let w = value * 10 + (x - 48) in
+      choose (λ m. left ids bits value count (x ∷ s) ≡ past value count (x ∷ s) (min m (suc n))) (isDigit x)
+      (λ e.
+      one-digit value count x s e (λ t. omega arith)
+      ∙ digits-left n w (count + 1) s (omega arith)
+      ∙ ap (λ c. left ids bits (decimal w (take k s)) c (drop k s)) (omega arith)
+      ∙ ap (past value count (x ∷ s)) (sym (suc-min-suc (run isDigit s) n)))
+      (λ e. rw (zero-min (suc n), add-zero))
+
+  -- behind the digits of a word that is no id, nothing makes it one; nor does anything but a comma end one
+  module _ (value count : ℕ) where
+    no-id-left : (s : List ℕ) → inRange value count ≡ false → (isDigit (getD s 0 0) ≡ true → count ≡ 10)
+        → left ids bits value count s ≡ Illegal
+    no-id-left [] q full = rw (q, left)
+    no-id-left (x ∷ s) q full =
+        choose (λ w. w ≡ Illegal) (eqb x 44) (λ e. rw q) (λ e.
+        choose (λ w. w ≡ Illegal) (isDigit x) (λ d. rw (eq-eqb count 10 (full d))) (λ d. refl))
+
+    no-comma-left : (x : ℕ) (s : List ℕ) → x ≢ 44 → (isDigit x ≡ true → count ≡ 10)
+        → left ids bits value count (x ∷ s) ≡ Illegal
+    no-comma-left x s c full =
+        choose (λ w. w ≡ Illegal) (eqb x 44) (λ e. absurd (c (eqb-true x 44 e))) (λ e.
+        choose (λ w. w ≡ Illegal) (isDigit x) (λ d. rw (eq-eqb count 10 (full d))) (λ d. refl))
+
 -- ---- each way that the code goes
 
--- at i, what is left of the pass is the whole
-pub record Midway (ids v : List ℕ) (bits value count i : ℕ) : Type 0 where
-  pub same : left ids bits value count (drop i v) ≡ namedIn v ids
+-- a word begins at i: what is left of the pass is the whole
+pub record Midway (ids v : List ℕ) (bits i : ℕ) : Type 0 where
+  pub same : left ids bits 0 0 (drop i v) ≡ namedIn v ids
 
-pub started : (ids v : List ℕ) → Midway ids v 0 0 0 0
+pub started : (ids v : List ℕ) → Midway ids v 0 0
 started ids v = record { same = whole ids v }
 
-module _ {ids v : List ℕ} {bits value count i : ℕ} (m : Midway ids v bits value count i) where
-  module _ (h : length v ≤ i) where
-    ended : left ids bits value count [] ≡ namedIn v ids
-    ended = ap (left ids bits value count) (sym (drop-of-length-le v h)) ∙ m .same
+-- where the digits d were read
+module _ {ids v : List ℕ} {bits i : ℕ} (m : Midway ids v bits i) (d : Digits) (e : d ≡ digitsAt 10 (drop i v)) where
+  abbrev end : ℕ
+  end = i + d .count
 
-    pub end-id : {p : ℕ} {r : Bool} → p ≡ found ids (value ∷ []) → r ≡ inRange value count → not r ≡ false → Those (bitOr bits p) ≡ namedIn v ids
-    end-id {p} {r} e q n = rw (e, ← ended, ← q, not-false r n, left)
+  behind : left ids bits (d .value) (d .count) (drop end v) ≡ namedIn v ids
+  behind =
+      let s = drop i v in
+      let k = d .count in
+      ap₂ (λ a l. left ids bits a k l) (writes 10 (lit≤ tt) s d e) (sym (drop-drop k i v))
+      ∙ ap (λ c. left ids bits (numberOf (take k s)) c (drop k s)) (sym (zero-add k))
+      ∙ ap (past ids bits 0 0 s) (counts 10 (lit≤ tt) s d e)
+      ∙ sym (digits-left ids bits 10 0 0 s refl)
+      ∙ m .same
 
-    pub end-wrong : {r : Bool} → r ≡ inRange value count → not r ≡ true → Illegal ≡ namedIn v ids
-    end-wrong {r} q n = rw (← ended, ← q, not-true r n, left)
+  -- a digit behind them is the eleventh
+  tenth : isDigit (getD v end 0) ≡ true → d .count ≡ 10
+  tenth h = one-too-many 10 (lit≤ tt) (drop i v) d e (ap isDigit (getD-drop i v (d .count) 0) ∙ h)
 
-  module _ (h : i < length v) where
-    abbrev x : ℕ
-    x = getD v i 0
+  pub room : i ≤ length v → end ≤ length v
+  room h = omega (arith, digits-room 10 (lit≤ tt) (drop i v) d e, length-drop i v)
 
-    abbrev s : List ℕ
-    s = drop (i + 1) v
+  pub no-comma : end < length v → getD v end 0 ≢ 44 → Illegal ≡ namedIn v ids
+  no-comma h c =
+      sym (no-comma-left ids bits (d .value) (d .count) (getD v end 0) (drop (end + 1) v) c tenth)
+      ∙ ap (left ids bits (d .value) (d .count)) (sym (here v end h))
+      ∙ behind
 
-    here : left ids bits value count (x ∷ s) ≡ namedIn v ids
-    here = let e : drop i v ≡ x ∷ s = rw (add-one, drop-cons v i 0) in ap (left ids bits value count) (sym e) ∙ m .same
+  module _ {r : Bool} (q : r ≡ inRange (d .value) (d .count)) where
+    pub wrong-id : not r ≡ true → Illegal ≡ namedIn v ids
+    wrong-id n =
+        sym (no-id-left ids bits (d .value) (d .count) (drop end v) (sym q ∙ not-true r n)
+        (λ h. tenth (ap isDigit (ap (λ k. getD v k 0) (sym (add-zero end)) ∙ sym (getD-drop end v 0 0)) ∙ h)))
+        ∙ behind
 
-    pub turn-id : {p : ℕ} {r : Bool} → p ≡ found ids (value ∷ []) → x ≡ 44 → r ≡ inRange value count → not r ≡ false
-        → Midway ids v (bitOr bits p) 0 0 (i + 1)
-    turn-id {p} {r} e c q n = record { same = rw (e, ← here, eq-eqb x 44 c, ← q, not-false r n, left) }
+    module _ (n : not r ≡ false) where
+      pub in-range : d .value ≤ 4294967295
+      in-range =
+          let (some, least) = both (leb 1 (d .count)) (leb (d .value) 4294967295) (sym q ∙ not-false r n) in
+          leb-true (d .value) 4294967295 least
 
-    pub turn-wrong : {r : Bool} → x ≡ 44 → r ≡ inRange value count → not r ≡ true → Illegal ≡ namedIn v ids
-    turn-wrong {r} c q n = rw (← here, eq-eqb x 44 c, ← q, not-true r n, left)
+      module _ {p : ℕ} (there : p ≡ found ids (d .value ∷ [])) where
+        pub last-id : length v ≤ end → Those (bitOr bits p) ≡ namedIn v ids
+        last-id h = rw (there, ← behind, drop-of-length-le v h, ← q, not-false r n, left)
 
-    pub turn-other : {d : Bool} → x ≢ 44 → d ≡ isDigit x → not d ≡ true → Illegal ≡ namedIn v ids
-    turn-other {d} c q n = rw (← here, ne-eqb x 44 c, ← q, not-true d n, left)
-
-    pub turn-full : x ≢ 44 → isDigit x ≡ true → count ≡ 10 → Illegal ≡ namedIn v ids
-    turn-full c e k = rw (← here, ne-eqb x 44 c, e, eq-eqb count 10 k, left)
-
-    pub turn-digit : x ≢ 44 → isDigit x ≡ true → count ≢ 10 → Midway ids v bits (value * 10 + (x - 48)) (count + 1) (i + 1)
-    turn-digit c e k = record { same = rw (← here, ne-eqb x 44 c, e, ne-eqb count 10 k, left) }
+        pub next-id : end < length v → getD v end 0 ≡ 44 → Midway ids v (bitOr bits p) (end + 1)
+        next-id h c =
+            let comma = eq-eqb (getD v end 0) 44 c in
+            record { same = rw (there, ← behind, here v end h, comma, ← q, not-false r n, left) }

@@ -3,6 +3,7 @@ ghost use mathlib.Core.Path.{_≡_};
 ghost use mathlib.Core.Bool.{cond};
 ghost use mathlib.Core.List.{[], _∷_};
 ghost use Prim.Native.Nat.{min};
+ghost use lib.Dec.{eqb};
 ghost use lib.ListN.{take};
 ghost use Rattle.idlist.specs.Named.{namedIn, bitsFrom, inRange};
 
@@ -22,20 +23,21 @@ fn in_range(value: u64, count: usize) -> bool
     value <= 4294967295
 }
 
+// 1 where two ids are the same, else 0.
+fn same(x: u32, id: u32) -> u64
+    ensures { λ r. ⌜ r ≡ cond (eqb x id) 1 0 ⌝ }
+{
+    if x == id { 1 } else { 0 }
+}
+
 fn at_most_64(n: usize) -> usize
     ensures { λ r. ⌜ r ≡ min n 64 ⌝ }
 {
     if n < 64 { n } else { 64 }
 }
 
-fn bit_where(test: bool) -> u64
-    ensures { λ r. ⌜ r ≡ cond test 1 0 ⌝ }
-{
-    if test { 1 } else { 0 }
-}
-
-// Where `id` stands among the first 64 of `ids`, a bit for each place, the last one first: so none has to be moved to its
-// place.
+// Where `id` stands among the first 64 of `ids`, a bit for each place. From the last place on: so no bit is shifted to
+// its place by itself.
 fn places(ids: &[u32], id: u32) -> u64
     ensures { λ r. ⌜ r ≡ bitsFrom 0 (id ∷ []) (take 64 (now (ids .entry))) ⌝ }
 {
@@ -43,7 +45,7 @@ fn places(ids: &[u32], id: u32) -> u64
     let mut j = at_most_64(ids.len());
     while 0 < j {
         j -= 1;
-        bits = bits * 2 + bit_where(ids[j] == id);
+        bits = bits * 2 + same(ids[j], id);
     }
     bits
 }
@@ -53,32 +55,22 @@ pub fn named(v: &[u8], ids: &[u32]) -> Which
     ensures { λ r. ⌜ r ≡ namedIn (now (v .entry)) (now (ids .entry)) ⌝ }
 {
     let mut bits: u64 = 0;
-    let mut value: u64 = 0;
-    let mut count = 0;
     let mut i = 0;
-    while i < v.len() {
-        let b = v[i];
+    loop {
+        let d = digits::digits_at(v, i, 10);
+        let value = d.value;
+        let count = d.count;
+        if !in_range(value, count) {
+            return Which::Illegal;
+        }
+        bits = bits | places(ids, value as u32);
+        i += count;
+        if v.len() <= i {
+            return Which::Those(bits);
+        }
+        if v[i] != b',' {
+            return Which::Illegal;
+        }
         i += 1;
-        if b == b',' {
-            if !in_range(value, count) {
-                return Which::Illegal;
-            }
-            bits = bits | places(ids, value as u32);
-            value = 0;
-            count = 0;
-            continue;
-        }
-        if !octets::is_digit(b) {
-            return Which::Illegal;
-        }
-        if count == 10 {
-            return Which::Illegal;
-        }
-        value = value * 10 + (b - 48) as u64;
-        count += 1;
     }
-    if !in_range(value, count) {
-        return Which::Illegal;
-    }
-    Which::Those(bits | places(ids, value as u32))
 }

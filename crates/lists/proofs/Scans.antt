@@ -1,5 +1,5 @@
 -- Tests over a whole list, runs at its front, and the comparison of two lists. Assumes nothing.
-use Prim.Native.Nat.{ℕ, suc}
+use Prim.Native.Nat.{ℕ, suc, _≤_, zero-le, suc-le-suc}
 use mathlib.Core.Path.{_≡_, refl, ap, ap₂}
 use mathlib.Core.Bool.{Bool, true, false, false≢true}
 use mathlib.Core.List.{List, [], _∷_, _++_}
@@ -38,6 +38,14 @@ module _ {ℓ} {A : Type ℓ} (test : A → Bool) where
           → length (take (elim b [ true ↦ suc (run test l) | false ↦ 0 ]) (x ∷ l)) ≡ elim b [ true ↦ suc (run test l) | false ↦ 0 ]
       go true ih = ap suc ih
       go false ih = refl
+
+  pub run-in : (l : List A) → run test l ≤ length l
+  run-in [] = zero-le
+  run-in (x ∷ l) = go (test x) (run-in l)
+    where
+      go : (b : Bool) → run test l ≤ length l → elim b [ true ↦ suc (run test l) | false ↦ 0 ] ≤ suc (length l)
+      go true h = suc-le-suc h
+      go false h = zero-le
 
 pub same-so : (l m : List ℕ) → same l m ≡ true → l ≡ m
 same-so [] [] e = refl

@@ -287,8 +287,8 @@ pub fn table() -> [u8; 256]
     CLASS
 }
 
-// Three tests by their bounds, where taking the table would cost more: framing, start lines and names of channels test a
-// few bytes of a message. That the bounds say what the table says is computed over all 256 bytes.
+// Three tests by their bounds, where taking the table would cost more: start lines and names of channels test a few
+// bytes of a message. That the bounds say what the table says is computed over all 256 bytes.
 pub fn is_digit(b: u8) -> bool
     ensures { λ r. ⌜ r ≡ isDigit b ⌝ }
 {

@@ -9,11 +9,11 @@ use native.Mathlib.Omega.{arith}
 use lib.ListN.{length, take, drop, take-append-drop}
 use lib.Seq.{length-take-le}
 use Rattle.lists.specs.Lists.{all, run}
+use Rattle.lists.proofs.Scans.{run-in}
 use Rattle.lists.proofs.Tests.{both}
 use Rattle.octets.specs.Octets.{isDigit}
 use Rattle.readers.specs.Words.{numberOf}
 use Rattle.digits.specs.Steps.{digitsAt}
-use Rattle.startwords.proofs.Positions.{run-in}
 
 -- w, at most n bytes that pass, and then r; w ends where n do, or at a byte that does not pass, or with the list
 pub data Front (test : ℕ → Bool) : ℕ → List ℕ → List ℕ → Type 0 where

@@ -8,6 +8,7 @@ use native.Mathlib.Omega.{arith}
 use lib.Dec.{eqb}
 use lib.ListN.{length, getD, drop, length-drop, drop-of-length-le}
 use Rattle.lists.specs.Lists.{run}
+use Rattle.lists.proofs.Scans.{run-in}
 use Rattle.lists.proofs.Tests.{both}
 use Rattle.octets.specs.Octets.{isDigit}
 use Rattle.readers.proofs.Positions.{here}
@@ -26,14 +27,6 @@ module _ (s t : List ℕ) (i k : ℕ) where
     pub text-here : (b : Bool) → i < length s → eqb (getD s i 0) (getD t k 0) ≡ b
         → begins (drop k t) (drop i s) ≡ b && begins (drop (k + 1) t) (drop (i + 1) s)
     text-here b h e = rw (here t k more, here s i h) (ap (λ b. b && begins (drop (k + 1) t) (drop (i + 1) s)) e)
-
-pub run-in : (test : ℕ → Bool) (l : List ℕ) → run test l ≤ length l
-run-in test [] = omega arith
-run-in test (x ∷ l) = go (test x) (run-in test l)
-  where
-    go : (b : Bool) → run test l ≤ length l → elim b [ true ↦ suc (run test l) | false ↦ 0 ] ≤ suc (length l)
-    go true h = omega arith
-    go false h = omega arith
 
 -- where digits stand there is room for them
 pub digits-in : (most : ℕ) (s : List ℕ) (i : ℕ) (d : Digits) → d ≡ digitsAt most (drop i s) → (d .count ≡ 0 → ⊥) → i + d .count ≤ length s

@@ -14,21 +14,21 @@ use Rattle.framing.proofs.read_opening.Statement.{statement}
 use Rattle.framing.proofs.read_opening.Tie as tie
 
 -- past the last step: where each step ended, and the opening that they read
-module _ (c : tie.After-text-after3) where
+module _ (c : tie.After-byte-after3) where
   abbrev stated : tie.After-number-after3
-  stated = c .before .before
+  stated = c .before
 
-  abbrev space : tie.After-text-after2
+  abbrev space : tie.After-byte-after2
   space = stated .before
 
   abbrev minor : tie.After-number-after2
-  minor = space .before .before
+  minor = space .before
 
-  abbrev dot : tie.After-text-after
+  abbrev dot : tie.After-byte-after
   dot = minor .before
 
   abbrev major : tie.After-number-after
-  major = dot .before .before
+  major = dot .before
 
   abbrev mrcp : tie.After-text
   mrcp = major .before
@@ -43,18 +43,18 @@ module _ (c : tie.After-text-after3) where
     stated = valueOf (stated .number-after3 .result);
   }
 
-  by-steps : (p : Place) → c .text-after3 .result ≡ p → frontOf (opening s) ≡ frontAt p o
+  by-steps : (p : Place) → c .byte-after3 .result ≡ p → frontOf (opening s) ≡ frontAt p o
   unfolding opening
   by-steps p e =
       ap frontOf
       (by-first s (bytes "MRCP/") _ _ (mrcp .text .ensures)
       ∙ by-number s (mrcp .text .result) 2 _ _ (major .number-after .ensures)
-      ∙ by-text s (major .number-after .result) (bytes ".") _ _ (dot .text-after .ensures)
-      ∙ by-number s (dot .text-after .result) 2 _ _ (minor .number-after2 .ensures)
-      ∙ by-text s (minor .number-after2 .result) (bytes " ") _ _ (space .text-after2 .ensures)
-      ∙ by-number s (space .text-after2 .result) 19 _ _ (stated .number-after3 .ensures)
-      ∙ by-text s (stated .number-after3 .result) (bytes " ") _ _ (c .text-after3 .ensures))
-      ∙ by-last s (c .text-after3 .result) o
+      ∙ by-text s (major .number-after .result) (bytes ".") _ _ (dot .byte-after .ensures)
+      ∙ by-number s (dot .byte-after .result) 2 _ _ (minor .number-after2 .ensures)
+      ∙ by-text s (minor .number-after2 .result) (bytes " ") _ _ (space .byte-after2 .ensures)
+      ∙ by-number s (space .byte-after2 .result) 19 _ _ (stated .number-after3 .ensures)
+      ∙ by-text s (stated .number-after3 .result) (bytes " ") _ _ (c .byte-after3 .ensures))
+      ∙ by-last s (c .byte-after3 .result) o
       ∙ ap (λ p. frontAt p o) e
 
 slice-aggregate-text : tie.Need-slice-aggregate-text
@@ -66,29 +66,20 @@ text-requires c κs = search needs
 number-after-requires : tie.Need-number-after-requires
 number-after-requires c κs = search needs
 
-slice-aggregate-text-after : tie.Need-slice-aggregate-text-after
-slice-aggregate-text-after c = search needs
-
-text-after-requires : tie.Need-text-after-requires
-text-after-requires c κs = search needs
+byte-after-requires : tie.Need-byte-after-requires
+byte-after-requires c κs = search needs
 
 number-after-requires-2 : tie.Need-number-after-requires-2
 number-after-requires-2 c κs = search needs
 
-slice-aggregate-text-after-2 : tie.Need-slice-aggregate-text-after-2
-slice-aggregate-text-after-2 c = search needs
-
-text-after-requires-2 : tie.Need-text-after-requires-2
-text-after-requires-2 c κs = search needs
+byte-after-requires-2 : tie.Need-byte-after-requires-2
+byte-after-requires-2 c κs = search needs
 
 number-after-requires-3 : tie.Need-number-after-requires-3
 number-after-requires-3 c κs = search needs
 
-slice-aggregate-text-after-3 : tie.Need-slice-aggregate-text-after-3
-slice-aggregate-text-after-3 c = search needs
-
-text-after-requires-3 : tie.Need-text-after-requires-3
-text-after-requires-3 c κs = search needs
+byte-after-requires-3 : tie.Need-byte-after-requires-3
+byte-after-requires-3 c κs = search needs
 
 enum-told : tie.Need-enum-told
 enum-told c = search needs
@@ -127,14 +118,11 @@ read-opening-spec =
     slice-aggregate-text
     text-requires
     number-after-requires
-    slice-aggregate-text-after
-    text-after-requires
+    byte-after-requires
     number-after-requires-2
-    slice-aggregate-text-after-2
-    text-after-requires-2
+    byte-after-requires-2
     number-after-requires-3
-    slice-aggregate-text-after-3
-    text-after-requires-3
+    byte-after-requires-3
     enum-told
     enum-told-2
     enum-known-end

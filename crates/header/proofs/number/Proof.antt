@@ -12,18 +12,18 @@ digits-at-requires c κs = search needs
 returns : tie.Need-returns
 returns c =
     let d = c .before .digits-at in
-    sym (stated-none (c .before .before .before .args .v .now) (d .result) (d .ensures) (c .if1 .taken))
+    sym (stated-part (c .before .before .before .args .v .now) (d .result) (d .ensures) (c .if1 .taken))
 
 returns-2 : tie.Need-returns-2
 returns-2 c =
     let d = c .before .before .digits-at in
-    sym (stated-part (c .before .before .before .before .args .v .now) (d .result) (d .ensures) (c .if2 .taken))
+    sym (stated-none (c .before .before .before .before .args .v .now) (d .result) (d .ensures) (c .if2 .taken))
 
 returns-3 : tie.Need-returns-3
 returns-3 c =
     let d = c .before .before .digits-at in
     let v = c .before .before .before .before .args .v .now in
-    sym (stated-whole v (d .result) (d .ensures) (c .before .if1 .left) (c .if2 .left))
+    sym (stated-whole v (d .result) (d .ensures) (c .if2 .left) (c .before .if1 .left))
 
 pub number-spec : {M : Type 1} → statement M
 number-spec = tie.close (tie.spec digits-at-requires returns returns-2 returns-3)

@@ -1,126 +1,87 @@
--- `idlist::named` meets its contract. The invariant: what is left of the pass equals the whole, and `value` has `count` digits, at most ten.
+-- `idlist::named` meets its contract. The invariant: a word begins at i, and what is left of the pass equals the whole.
 -- Assumes nothing.
-use mathlib.Core.Path.{_≡_, sym, _∙_}
-use mathlib.Core.Bool.{true}
-use Prim.Native.Nat.{ℕ, _-_, _^_, _≤_, _<_}
-use native.Mathlib.Nat.{pow-le-pow-right}
-use native.Mathlib.Numerals.{add-one}
+use Prim.Native.Nat.{_+_, _-_, _≤_}
 use native.Mathlib.Omega.{arith}
-use lib.Dec.{leb, lit<}
-use lib.ListN.{length, getD}
-use borrow.Author.Tests.{leb-true, not-false}
-use Rattle.lists.proofs.Tests.{both}
-use Rattle.octets.specs.Octets.{isDigit}
-use Rattle.readers.proofs.Decimals.{digit-bounds, grown}
-use Rattle.idlist.specs.Named.{inRange}
-use Rattle.idlist.proofs.Pass.{Midway, started, end-id, end-wrong, turn-id, turn-wrong, turn-other, turn-full, turn-digit}
+use lib.ListN.{length}
+use Rattle.digits.specs.declared.Digits.{Digits}
+use Rattle.idlist.proofs.Pass.{Midway, started, room, no-comma, wrong-id, in-range, last-id, next-id}
 use Rattle.idlist.proofs.named.Statement.{statement}
 use Rattle.idlist.proofs.named.Tie as tie
 
 abbrev Inv-loop : tie.InvT-loop
-Inv-loop v ids bits₀ value₀ count₀ i₀ bits value count i = Midway ids v bits value count i × (i ≤ length v) × (value < 10 ^ count) × (count ≤ 10)
+Inv-loop v ids bits₀ i₀ bits i = Midway ids v bits i × (i ≤ length v)
 
 abbrev μ-loop : tie.MeasureT-loop
-μ-loop v ids bits₀ value₀ count₀ i₀ bits value count i = length v - i
-
--- where the byte at hand is a digit
-is-one : (c : tie.Else4 Inv-loop μ-loop) → isDigit (getD (c .before .before .before .before .before .before .before .before .before .args .v .now) (c .before .before .before .before .before .before .loop .i) 0) ≡ true
-is-one c = sym (c .before .before .is-digit .ensures) ∙ not-false _ (c .before .if3 .left)
-
-bounds : (c : tie.Else4 Inv-loop μ-loop) → (let x = getD (c .before .before .before .before .before .before .before .before .before .args .v .now) (c .before .before .before .before .before .before .loop .i) 0 in (48 ≤ x) × (x ≤ 57))
-bounds c = digit-bounds _ (is-one c)
-
-at-most-ten : (c : tie.Else4 Inv-loop μ-loop) → c .before .before .before .before .before .before .loop .value < 10 ^ 10
-at-most-ten c = let l = c .before .before .before .before .before .before .loop in omega (arith, l .inv .2, pow-le-pow-right {n = 10} (lit< tt) {i = l .count} {j = 10} (l .inv .3))
+μ-loop v ids bits₀ i₀ bits i = length v - i
 
 loop-holds : tie.Need-loop-holds Inv-loop μ-loop
-loop-holds c = let a = c .before .before .args in (started (a .ids .now) (a .v .now), omega arith, lit< tt, omega arith)
+loop-holds c = let a = c .before .before .args in (started (a .ids .now) (a .v .now), omega arith)
 
-shared-slice-read-b : tie.Need-shared-slice-read-b Inv-loop μ-loop
-shared-slice-read-b c = omega arith
-
-add-i : tie.Need-add-i Inv-loop μ-loop
-add-i c = omega arith
+digits-at-requires : tie.Need-digits-at-requires Inv-loop μ-loop
+digits-at-requires c κs = tt
 
 in-range-requires : tie.Need-in-range-requires Inv-loop μ-loop
 in-range-requires c κs = tt
 
 returns : tie.Need-returns Inv-loop μ-loop
-returns c = turn-wrong (c .before .before .before .before .before .loop .inv .0) (c .before .before .before .before .loop-test .taken) (c .before .before .if1 .taken) (c .before .in-range .ensures) (c .if2 .taken)
+returns c =
+    let at = c .before .before in
+    wrong-id (at .before .loop .inv .0) _ (at .digits-at .ensures) (c .before .in-range .ensures) (c .if1 .taken)
 
--- an id within range
-in-32 : (value count : ℕ) → inRange value count ≡ true → value ≤ 4294967295
-in-32 value count e = leb-true value 4294967295 (both (leb 1 count) (leb value 4294967295) e .1)
+-- the digits that were read are an id
+module _ (c : tie.Else1 Inv-loop μ-loop) where
+  abbrev d : Digits
+  d = c .before .before .digits-at .result
+
+  small : d .value ≤ 4294967295
+  small =
+      let at = c .before .before in
+      in-range (at .before .loop .inv .0) _ (at .digits-at .ensures) (c .before .in-range .ensures) (c .if1 .left)
+
+  fits : c .before .before .before .loop .i + d .count
+      ≤ length (c .before .before .before .before .before .before .args .v .now)
+  fits =
+      let at = c .before .before in
+      room (at .before .loop .inv .0) d (at .digits-at .ensures) (at .before .loop .inv .1)
 
 cast-places : tie.Need-cast-places Inv-loop μ-loop
-cast-places c = let l = c .before .before .before .before .before .loop in omega (arith, in-32 (l .value) (l .count) (sym (c .before .in-range .ensures) ∙ not-false _ (c .if2 .left)))
+cast-places c = omega (arith, small c)
 
 places-requires : tie.Need-places-requires Inv-loop μ-loop
 places-requires c κs = tt
+
+add-i : tie.Need-add-i Inv-loop μ-loop
+add-i c = omega (arith, fits (c .before))
+
+returns-2 : tie.Need-returns-2 Inv-loop μ-loop
+returns-2 c =
+    let id = c .before .before in
+    let at = id .before .before in
+    last-id (at .before .loop .inv .0) _ (at .digits-at .ensures) (id .before .in-range .ensures) (id .if1 .left)
+    (c .before .places .ensures) (c .if2 .taken)
+
+shared-slice-read-if3 : tie.Need-shared-slice-read-if3 Inv-loop μ-loop
+shared-slice-read-if3 c = omega arith
+
+returns-3 : tie.Need-returns-3 Inv-loop μ-loop
+returns-3 c =
+    let at = c .before .before .before .before .before .before in
+    no-comma (at .before .loop .inv .0) _ (at .digits-at .ensures) (omega arith) (c .if3 .taken)
+
+add-i-2 : tie.Need-add-i-2 Inv-loop μ-loop
+add-i-2 c = omega arith
 
 loop-less : tie.Need-loop-less Inv-loop μ-loop
 loop-less c = omega arith
 
 loop-again : tie.Need-loop-again Inv-loop μ-loop
-loop-again c = (
-  turn-id (c .before .before .before .before .before .before .loop .inv .0) (c .before .before .before .before .before .loop-test .taken) (c .places .ensures) (c .before .before .before .if1 .taken) (c .before .before .in-range .ensures) (c .before .if2 .left),
-  omega arith,
-  lit< tt,
-  omega arith,
-)
-
-is-digit-requires : tie.Need-is-digit-requires Inv-loop μ-loop
-is-digit-requires c κs = tt
-
-returns-2 : tie.Need-returns-2 Inv-loop μ-loop
-returns-2 c = turn-other (c .before .before .before .before .before .loop .inv .0) (c .before .before .before .before .loop-test .taken) (c .before .before .if1 .left) (c .before .is-digit .ensures) (c .if3 .taken)
-
-returns-3 : tie.Need-returns-3 Inv-loop μ-loop
-returns-3 c =
-    turn-full (c .before .before .before .before .before .before .loop .inv .0) (c .before .before .before .before .before .loop-test .taken) (c .before .before .before .if1 .left) (sym (c .before .before .is-digit .ensures) ∙ not-false _ (c .before .if3 .left))
-    (c .if4 .taken)
-
-mul-value : tie.Need-mul-value Inv-loop μ-loop
-mul-value c = omega (arith, at-most-ten c)
-
-sub-value : tie.Need-sub-value Inv-loop μ-loop
-sub-value c = bounds c .0
-
-cast-value : tie.Need-cast-value Inv-loop μ-loop
-cast-value c = omega (arith, bounds c)
-
-add-value : tie.Need-add-value Inv-loop μ-loop
-add-value c = omega (arith, at-most-ten c, bounds c)
-
-add-count : tie.Need-add-count Inv-loop μ-loop
-add-count c = omega arith
-
-loop-less-2 : tie.Need-loop-less-2 Inv-loop μ-loop
-loop-less-2 c = omega arith
-
-loop-again-2 : tie.Need-loop-again-2 Inv-loop μ-loop
-loop-again-2 c =
-    let l = c .before .before .before .before .before .before .loop in (
-      turn-digit (l .inv .0) (c .before .before .before .before .before .loop-test .taken) (c .before .before .before .if1 .left) (is-one c) (c .if4 .left),
-      omega arith,
-      rw add-one (grown (l .value) (l .count) _ (l .inv .2) (is-one c)),
+loop-again c =
+    let id = c .before .before .before .before in
+    let at = id .before .before in (
+      next-id (at .before .loop .inv .0) _ (at .digits-at .ensures) (id .before .in-range .ensures) (id .if1 .left)
+          (c .before .before .before .places .ensures) (omega arith) (c .if3 .left),
       omega arith,
     )
-
-in-range-requires-2 : tie.Need-in-range-requires-2 Inv-loop μ-loop
-in-range-requires-2 c κs = tt
-
-returns-4 : tie.Need-returns-4 Inv-loop μ-loop
-returns-4 c = end-wrong (c .before .before .before .loop .inv .0) (c .before .before .loop-test .left) (c .before .in-range2 .ensures) (c .if5 .taken)
-
-cast-places-2 : tie.Need-cast-places-2 Inv-loop μ-loop
-cast-places-2 c = let l = c .before .before .before .loop in omega (arith, in-32 (l .value) (l .count) (sym (c .before .in-range2 .ensures) ∙ not-false _ (c .if5 .left)))
-
-places-requires-2 : tie.Need-places-requires-2 Inv-loop μ-loop
-places-requires-2 c κs = tt
-
-returns-5 : tie.Need-returns-5 Inv-loop μ-loop
-returns-5 c = end-id (c .before .before .before .before .loop .inv .0) (c .before .before .before .loop-test .left) (c .places2 .ensures) (c .before .before .in-range2 .ensures) (c .before .if5 .left)
 
 pub named-spec : {M : Type 1} → statement M
 named-spec =
@@ -129,26 +90,15 @@ named-spec =
     Inv-loop
     μ-loop
     loop-holds
-    shared-slice-read-b
-    add-i
+    digits-at-requires
     in-range-requires
     returns
     cast-places
     places-requires
-    loop-less
-    loop-again
-    is-digit-requires
+    add-i
     returns-2
+    shared-slice-read-if3
     returns-3
-    mul-value
-    sub-value
-    cast-value
-    add-value
-    add-count
-    loop-less-2
-    loop-again-2
-    in-range-requires-2
-    returns-4
-    cast-places-2
-    places-requires-2
-    returns-5)
+    add-i-2
+    loop-less
+    loop-again)
