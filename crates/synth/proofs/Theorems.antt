@@ -4,6 +4,10 @@ pub mod Judgements
 pub mod Transitions
 pub mod Recognitions
 pub mod Thresholds
+pub mod LevelLaw
+pub mod Readable
+pub mod Editions
+pub mod SettingsTable
 pub mod Scores
 pub mod Readings
 pub mod Folds

@@ -30,6 +30,29 @@ pub struct Entry {
     pub threshold: u32,
 }
 
+// A level between 0 and 1, kept twice: by its millionths and as a single-precision number.
+pub struct Level {
+    pub millionths: u32,
+    pub single: f32,
+}
+
+// A setting: none, a yes or no, a whole number of milliseconds, or a level.
+pub enum Setting {
+    Unset,
+    Flag(bool),
+    Millis(u64),
+    Level(Level),
+}
+
+// An edition of the settings of either kind of channel; those of the other kind are unset.
+pub struct Edition {
+    pub kill: Setting,
+    pub fetch: Setting,
+    pub silence: Setting,
+    pub confidence: Setting,
+    pub sensitivity: Setting,
+}
+
 // The last request-id seen on a channel.
 pub enum LastId {
     NoneSeen,
