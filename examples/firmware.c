@@ -1,6 +1,6 @@
 /* What a firmware engineer writes over klarvesimo.h: a synthesizer's channel and a recognizer's, each behind a line
  * driver that hands over bytes as they come, in pieces, and an engine that serves one request at a time and tells of
- * its end, sometimes late.
+ * its end, sometimes late. The client sets how long an engine waits, and a technician at the service bench goes back.
  *
  *    cc firmware.c $(pkg-config --cflags --libs klarvesimo)
  *
@@ -13,6 +13,10 @@
 #include <stdlib.h>
 #include <string.h>
 
+/* which number of an edition is the sort of the timeout that an engine goes by, and the next its value */
+enum { FETCH_TIMEOUT = 2, NO_INPUT_TIMEOUT = 0 }; /* a synthesizer's second setting, a recognizer's first */
+enum { DEFAULT_TIMEOUT = 5000 };
+
 struct resource {
   uint64_t channel[KLARVESIMO_CHANNEL];
   uint8_t in[KLARVESIMO_LONGEST_MESSAGE]; /* what has come and is not handled; a whole message always fits */
@@ -23,6 +27,8 @@ struct resource {
   uint64_t request;
   uint32_t cause; /* of the end that is kept */
   float score;
+  size_t timeout; /* which one */
+  uint64_t waits; /* its milliseconds, as the engine was told them last */
 };
 static struct resource synthesizer, recognizer;
 
@@ -34,10 +40,31 @@ static void stop_the_board(const char *call, uint32_t number) {
   exit(1);
 }
 
-static void open_channel(struct resource *r, const char *name, const char *runs) {
+static void open_channel(struct resource *r, const char *name, const char *runs, size_t timeout) {
   uint32_t number = klarvesimo_open(r->channel, (const uint8_t *)name, strlen(name));
   if (number) stop_the_board("klarvesimo_open", number);
-  r->runs = runs;
+  r->runs = runs, r->timeout = timeout, r->waits = DEFAULT_TIMEOUT;
+}
+
+/* After every call that may have made an edition: the engine is told its timeout, as the newest one has it. */
+static void follow_the_settings(struct resource *r) {
+  const uint64_t *newest = r->channel + KLARVESIMO_CHANNEL_SETTINGS, *setting = newest + r->timeout;
+  uint64_t waits = setting[0] == KLARVESIMO_MILLIS ? setting[1] : DEFAULT_TIMEOUT;
+  if (waits != r->waits) printf("[the engine waits for %" PRIu64 " ms]\n", waits);
+  r->waits = waits;
+}
+
+/* The service bench goes back to an edition of the settings, 1 the newest. */
+static void go_back(struct resource *r, uint32_t edition) {
+  uint32_t number = klarvesimo_back(r->channel, edition);
+  if (number == KLARVESIMO_NOT_KEPT) {
+    printf("[back %" PRIu32 " refused %" PRIu32 ": %" PRIu64 " are kept]\n", edition, number,
+           r->channel[KLARVESIMO_CHANNEL_EDITIONS]);
+    return;
+  }
+  if (number) stop_the_board("klarvesimo_back", number);
+  printf("[back to edition %" PRIu32 "]\n", edition);
+  follow_the_settings(r);
 }
 
 /* the requests that are held, the active one first */
@@ -65,6 +92,7 @@ static void report_end(struct resource *r, uint32_t cause, float score);
 
 /* An end that came while its prompt was paused is reported when that goes on. */
 static void after_a_call(struct resource *r) {
+  follow_the_settings(r);
   follow_the_channel(r);
   if (r->kept && !r->pauses) report_end(r, r->cause, r->score);
 }
@@ -173,7 +201,7 @@ static int play_synthesizer(void) {
     "MRCP/2.0 107 SPEAK 10\r\nChannel-Identifier:7f3a@speechsynth\r\n"
     "Content-Type:text/plain\r\nContent-Length:2\r\n\r\nHo"
     "MRCP/2.0 61 PAUSE 11\r\nChannel-Identifier:7f3a@speechsynth\r\n\r\n";
-  open_channel(&synthesizer, "7f3a@speechsynth", "speaks");
+  open_channel(&synthesizer, "7f3a@speechsynth", "speaks", FETCH_TIMEOUT);
   if (!comes(&synthesizer, line)) return 0;
   request_ended(&synthesizer, 7, KLARVESIMO_CAUSE_NORMAL, 0); /* which the STOP has ended */
   request_ended(&synthesizer, 8, KLARVESIMO_CAUSE_NORMAL, 0); /* paused: refused, and kept */
@@ -193,7 +221,7 @@ static int play_recognizer(void) {
     "MRCP/2.0 123 RECOGNIZE 3\r\nChannel-Identifier:7f3a@speechrecog\r\n"
     "Content-Type:text/uri-list\r\nContent-Length:11\r\n\r\nbuiltin:yes"
     "MRCP/2.0 73 START-INPUT-TIMERS 4\r\nChannel-Identifier:7f3a@speechrecog\r\n\r\n";
-  open_channel(&recognizer, "7f3a@speechrecog", "recognizes");
+  open_channel(&recognizer, "7f3a@speechrecog", "recognizes", NO_INPUT_TIMEOUT);
   if (!comes(&recognizer, line)) return 0;
   request_ended(&recognizer, 1, KLARVESIMO_RECOGNITION_SUCCESS, 0.93f); /* above its threshold */
   request_ended(&recognizer, 2, KLARVESIMO_RECOGNITION_SUCCESS, NAN);   /* refused, and nothing has changed */
@@ -202,4 +230,17 @@ static int play_recognizer(void) {
   return 1;
 }
 
-int main(void) { return play_synthesizer() && play_recognizer() ? 0 : 1; }
+/* on the recognizer's channel, as that was left */
+static int play_settings(void) {
+  static const char line[] =
+    "MRCP/2.0 116 SET-PARAMS 5\r\nChannel-Identifier:7f3a@speechrecog\r\n"
+    "No-Input-Timeout:15000\r\nConfidence-Threshold:0.6\r\n\r\n"
+    "MRCP/2.0 87 SET-PARAMS 6\r\nChannel-Identifier:7f3a@speechrecog\r\nNo-Input-Timeout:800\r\n\r\n"
+    "MRCP/2.0 86 SET-PARAMS 7\r\nChannel-Identifier:7f3a@speechrecog\r\nNo-Input-Timeout:-1\r\n\r\n";
+  if (!comes(&recognizer, line)) return 0; /* the last one is answered 404, and makes no edition */
+  go_back(&recognizer, 4);
+  go_back(&recognizer, 2);
+  return comes(&recognizer, "MRCP/2.0 65 GET-PARAMS 8\r\nChannel-Identifier:7f3a@speechrecog\r\n\r\n");
+}
+
+int main(void) { return play_synthesizer() && play_recognizer() && play_settings() ? 0 : 1; }

@@ -65,6 +65,14 @@ static void recognize(unsigned id) {
           "Content-Type:application/srgs+xml\r\nConfidence-Threshold:0.5\r\nContent-Length:2\r\n\r\nHi");
 }
 
+/* SET-PARAMS of all settings of the channel's kind */
+static void set_all(unsigned id) {
+  int recognizes = strcmp(name, RECOGNIZER_NAME) == 0;
+  request("SET-PARAMS", id,
+          recognizes ? "No-Input-Timeout:5000\r\nConfidence-Threshold:0.5\r\nSensitivity-Level:0.75\r\n\r\n"
+                     : "Kill-On-Barge-In:false\r\nFetch-Timeout:2500\r\n\r\n");
+}
+
 /* one call each */
 static void frames(void) { number = klarvesimo_frame(message, length, numbers, KLARVESIMO_FRAME_NUMBERS); }
 static void reads(void) { number = klarvesimo_read(message, length, numbers, KLARVESIMO_MOST, counts); }
@@ -76,6 +84,7 @@ static void reports_failure(void) {
   uint32_t cause = KLARVESIMO_RECOGNITION_GRAMMAR_COMPILATION_FAILURE; /* the longest one's */
   number = klarvesimo_report(channel, cause, 0, out, sizeof out, counts);
 }
+static void goes_back(void) { number = klarvesimo_back(channel, 2); }
 static void asks_held(void) { number = klarvesimo_held(channel, numbers, KLARVESIMO_MOST_HELD, counts); }
 static void responds(void) {
   static const uint8_t of[] = CHANNEL_NAME;
@@ -172,12 +181,21 @@ static void call_stop_list_of_ten(void) { stop_list(4000000000); }
 static void call_recognize(void) { prepare_recognizer(RECOGNIZER_NAME, 0, 0), recognize(7); }
 static void call_stop_8(void) { prepare_recognizer(RECOGNIZER_NAME, 1, 8), request("STOP", 9, "\r\n"); }
 static void eight_longest(void) { prepare_recognizer(LONGEST_RECOGNIZER_NAME, UINT32_MAX - 8, 8); }
+static void call_set(void) { prepare(0), set_all(7); }
+static void call_set_r(void) { prepare_recognizer(RECOGNIZER_NAME, 0, 0), set_all(7); }
+static void call_get(void) { call_set(), prepare_by(handles), request("GET-PARAMS", 8, "\r\n"); }
+static void call_get_r(void) { call_set_r(), prepare_by(handles), request("GET-PARAMS", 8, "\r\n"); }
+static void four_editions(void) {
+  prepare(0);
+  for (unsigned id = 10; id < 14; id++) set_all(id), prepare_by(handles);
+}
+static void call_speak_4(void) { four_editions(), speak(14); }
 static void one_outstanding(void) { prepare(1); }
 static void sixteen_outstanding(void) { prepare(16); }
 static void call_after_1(void) { prepare_after(1); }
 static void call_after_1000(void) { prepare_after(1000); }
 
-/* the sum of the lengths, or ids, that so many calls give; where the channel changes, each on a copy of the one that
+/* the sum of the lengths, ids or counts that so many calls give; where the channel changes, each on a copy of the one that
  * was prepared */
 static inline uint64_t sum_of(void (*call)(void), const uint64_t *gives, int changes, long count) {
   uint64_t sum = 0;
@@ -206,6 +224,9 @@ static uint64_t run_opens(long count) { return sum_of(opens, channel + KLARVESIM
 static uint64_t run_handles(long count) { return sum_of(handles, counts + KLARVESIMO_WRITTEN, 1, count); }
 static uint64_t run_reports(long count) { return sum_of(reports, counts, 1, count); }
 static uint64_t run_reports_failure(long count) { return sum_of(reports_failure, counts, 1, count); }
+static uint64_t run_goes_back(long count) {
+  return sum_of(goes_back, channel + KLARVESIMO_CHANNEL_EDITIONS, 1, count);
+}
 static uint64_t run_asks_held(long count) { return sum_of(asks_held, counts, 0, count); }
 static uint64_t run_frame_numbers(long count) { return numbers_of(frames, count); }
 static uint64_t run_read_numbers(long count) { return numbers_of(reads, count); }
@@ -238,6 +259,12 @@ static const struct bench {
     {"call-recognize", call_recognize, handles, run_handles},
     {"call-stop-8", call_stop_8, handles, run_handles},
     {"call-report-8", eight_longest, reports_failure, run_reports_failure},
+    {"call-set-params", call_set, handles, run_handles},
+    {"call-set-params-r", call_set_r, handles, run_handles},
+    {"call-get-params", call_get, handles, run_handles},
+    {"call-get-params-r", call_get_r, handles, run_handles},
+    {"call-speak-4", call_speak_4, handles, run_handles},
+    {"call-back", four_editions, goes_back, run_goes_back},
     {"call-after-0001", call_after_1, handles, run_handles},
     {"call-after-1000", call_after_1000, handles, run_handles},
 };

@@ -4,9 +4,10 @@
  * The address is the one line on standard output; what else there is to say is the log, on standard error. The
  * speech engine is played: with --prompt a prompt ends normally after so many milliseconds of speaking, and a
  * recognition with a success of score 1; and a line `report CAUSE [ID]` on standard input ends the active one, on a
- * recognizer `report CAUSE SCORE [ID]`. A report for which no client is there waits for the next. SIGTERM, SIGINT or
- * SIGHUP ends the board: it says which requests were still held, and which messages no client has got for certain.
- * Status 2 for words that it cannot read, 1 where the system refuses something. */
+ * recognizer `report CAUSE SCORE [ID]`. A report for which no client is there waits for the next. A line `back N` goes
+ * back to the edition N of the settings. SIGTERM, SIGINT or SIGHUP ends the board: it says which requests were still
+ * held, and which messages no client has got for certain. Status 2 for words that it cannot read, 1 where the system
+ * refuses something. */
 #define _POSIX_C_SOURCE 200809L
 #include <arpa/inet.h>
 #include <errno.h>
@@ -44,7 +45,8 @@ static const char HELP[] = USAGE
     "                 0 is for ever\n"
     "  PORT           of 127.0.0.1; 0 takes a free one\n"
     "A line `report CAUSE [ID]` on standard input is the engine's report, of the prompt that speaks or of this one;\n"
-    "on a recognizer `report CAUSE SCORE [ID]`, such as `report 0 0.83`.\n";
+    "on a recognizer `report CAUSE SCORE [ID]`, such as `report 0 0.83`.\n"
+    "A line `back N` goes back to the edition N of the settings, 1 the newest.\n";
 
 static uint64_t channel[KLARVESIMO_CHANNEL];
 static struct connection client = {.socket = -1, .silence = SILENCE};
@@ -184,9 +186,26 @@ static int reports(int64_t now) {
   return 1;
 }
 
+static void go_back(uint32_t edition) {
+  uint32_t number = klarvesimo_back(channel, edition);
+  if (number)
+    log_line("back %" PRIu32 " refused %" PRIu32 ", %s", edition, number, refusal_meaning(number));
+  else
+    log_line("back to edition %" PRIu32 " of the settings: %s", edition, edition_text(channel, 1));
+}
+
+/* What is to be done, by a line or the time: whether there may be more. */
+static int acts(int64_t now) {
+  uint32_t edition;
+  int due = engine_due(&engine, now);
+  if (!engine_asks(&engine, &edition)) return due && reports(now);
+  go_back(edition);
+  return 1;
+}
+
 static void speak(int64_t now) {
   do engine_follow(&engine, channel, now);
-  while (engine_due(&engine, now) && reports(now));
+  while (acts(now));
 }
 
 /* The next client. What was due before it came it is told before its own messages are handled; but not where it has

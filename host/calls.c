@@ -1,7 +1,6 @@
 #include "calls.h"
 
 #include <inttypes.h>
-#include <string.h>
 
 #include "channel.h"
 #include "checked.h"
@@ -37,6 +36,12 @@ void play_report(const struct command *c) {
   end_call(&call);
 }
 
+void play_back(const struct command *c) {
+  struct checked call = checked_back(c->edition);
+  printf("back %" PRIu32 "\n", call.number);
+  play_check(call.holds);
+}
+
 /* a message written outside any channel */
 static void end_written(uint32_t number, const uint8_t *out, uint64_t written, size_t room) {
   int holds = checked_written(number, out, written, room);
@@ -63,9 +68,7 @@ void play_complete(const struct command *c) {
   end_written(number, out, *written, c->room);
 }
 
-void play_channel(const struct command *c) { memcpy(checked_channel(), c->channel, sizeof c->channel); }
-
-void play_number(const struct command *c) { checked_channel()[c->place] = c->value; }
+void play_set(const struct command *c) { command_set(c, checked_channel()); }
 
 void play_numbers(const struct command *c) {
   (void)c;
@@ -86,5 +89,12 @@ void play_show(const struct command *c) {
   channel_write_last(stdout, channel);
   putchar(' ');
   channel_write_queue(stdout, channel, " ");
+  putchar('\n');
+}
+
+void play_settings(const struct command *c) {
+  (void)c;
+  fputs("settings ", stdout);
+  channel_write_editions(stdout, checked_channel());
   putchar('\n');
 }

@@ -7,14 +7,15 @@
 void play_open(const struct command *c);
 void play_message(const struct command *c);
 void play_report(const struct command *c);
+void play_back(const struct command *c);
 void play_respond(const struct command *c);
 void play_complete(const struct command *c);
 
-/* `channel`, `number`, `numbers` and `show` */
-void play_channel(const struct command *c);
-void play_number(const struct command *c);
+/* `channel`, `number`, and `settings` with words; `numbers`, `show`, and `settings` alone */
+void play_set(const struct command *c);
 void play_numbers(const struct command *c);
 void play_show(const struct command *c);
+void play_settings(const struct command *c);
 
 /* Writes `touched` where this does not hold. */
 void play_check(int holds);

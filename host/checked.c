@@ -4,15 +4,21 @@
 
 #include "channel.h"
 #include "lend.h"
+#include "level.h"
 #include "message.h"
 #include "score.h"
 
 enum { ALL = KLARVESIMO_CHANNEL * sizeof(uint64_t) };
 
+static const uint64_t MOST_MILLIS = UINT64_C(9999999999999999999);
+
 /* lent for as long as it is in use, and again at each opening */
 static uint64_t *channel;
 
-void checked_begin(void) { channel = memset(lend(CHANNEL, ALL), 0, ALL); }
+void checked_begin(void) {
+  channel = memset(lend(CHANNEL, ALL), 0, ALL);
+  channel[KLARVESIMO_CHANNEL_EDITIONS] = 1;
+}
 
 uint64_t *checked_channel(void) { return channel; }
 
@@ -173,7 +179,26 @@ static int zero(size_t from, size_t to) {
   return 1;
 }
 
-/* a refused call leaves every number as it was, a handled one 0 past count and size */
+/* a value as a call writes it: of its sort and in its range; or unset, and 0 */
+static int value_fits(const uint64_t *value, uint64_t sort) {
+  uint64_t most = sort == KLARVESIMO_FLAG ? 1 : sort == KLARVESIMO_MILLIS ? MOST_MILLIS : LEVEL_ONE;
+  return value[0] == KLARVESIMO_UNSET ? value[1] == 0 : value[0] == sort && value[1] <= most;
+}
+
+/* one to four editions with such values, and 0 past these */
+static int editions_fit(void) {
+  uint64_t count = channel[KLARVESIMO_CHANNEL_EDITIONS];
+  size_t settings = channel_settings(channel), at = KLARVESIMO_CHANNEL_SETTINGS;
+  if (count < 1 || count > KLARVESIMO_MOST_EDITIONS) return 0;
+  for (size_t edition = 1; edition <= count; edition++, at += KLARVESIMO_EDITION_NUMBERS) {
+    for (size_t i = 0; i < settings; i++)
+      if (!value_fits(channel_value(channel, edition, i), channel_setting(channel, i)->sort)) return 0;
+    if (!zero(at + 2 * settings, at + KLARVESIMO_EDITION_NUMBERS)) return 0;
+  }
+  return zero(at, KLARVESIMO_CHANNEL);
+}
+
+/* a refused call leaves every number as it was, a handled one 0 past the counts and the size */
 static int channel_agrees(uint32_t number, const uint64_t *before) {
   if (number) return memcmp(channel, before, ALL) == 0;
   uint64_t count = channel[KLARVESIMO_CHANNEL_COUNT], size = channel[KLARVESIMO_CHANNEL_SIZE];
@@ -182,7 +207,7 @@ static int channel_agrees(uint32_t number, const uint64_t *before) {
   return zero(KLARVESIMO_CHANNEL_QUEUE + (size_t)count, KLARVESIMO_CHANNEL_QUEUE + places) &&
          (!channel_recognizes(channel) ||
           zero(KLARVESIMO_CHANNEL_THRESHOLDS + (size_t)count, KLARVESIMO_CHANNEL_NAME)) &&
-         zero(KLARVESIMO_CHANNEL_NAME + (size_t)size, KLARVESIMO_CHANNEL);
+         zero(KLARVESIMO_CHANNEL_NAME + (size_t)size, KLARVESIMO_CHANNEL_EDITIONS) && editions_fit();
 }
 
 /* the message says that it is of this channel */
@@ -231,7 +256,7 @@ static int handle_agrees(const struct checked *c, const uint8_t *bytes, size_t c
 }
 
 struct checked checked_open(const uint8_t *from, size_t length) {
-  uint64_t expected[KLARVESIMO_CHANNEL] = {0};
+  uint64_t expected[KLARVESIMO_CHANNEL] = {[KLARVESIMO_CHANNEL_EDITIONS] = 1};
   const uint8_t *name = lend_copy(INPUT, from, length);
   channel = lend(CHANNEL, ALL);
   struct checked c = {.number = klarvesimo_open(channel, name, length)};
@@ -264,6 +289,42 @@ struct checked checked_report(uint32_t cause, uint32_t score, size_t room) {
   if (!checked_written(c.number, out, *written, room)) return c;
   c.written = *written;
   c.holds = channel_agrees(c.number, before) && (c.number != 0 || events_agree(&c, before)) &&
+            held_agrees(c.number != KLARVESIMO_NOT_SOUND);
+  return c;
+}
+
+/* so many numbers from here on are as they were */
+static int stays(const uint64_t *before, size_t from, uint64_t count) {
+  return memcmp(channel + from, before + from, (size_t)count * sizeof *channel) == 0;
+}
+
+/* an edition has the values that one had before */
+static int same_edition(size_t edition, const uint64_t *before, size_t was) {
+  for (size_t i = 0; i < channel_settings(channel); i++) {
+    const uint64_t *now = channel_value(channel, edition, i), *then = channel_value(before, was, i);
+    if (now[0] != then[0] || (now[0] != KLARVESIMO_UNSET && now[1] != then[1])) return 0;
+  }
+  return 1;
+}
+
+/* the newest edition is the one that had this number, the others are one on, and all else is as it was */
+static int went_back(uint32_t number, const uint64_t *before) {
+  uint64_t kept = before[KLARVESIMO_CHANNEL_EDITIONS], now = channel[KLARVESIMO_CHANNEL_EDITIONS];
+  if (number < 1 || number > kept || now != (kept < KLARVESIMO_MOST_EDITIONS ? kept + 1 : kept)) return 0;
+  for (size_t edition = 1; edition <= now; edition++)
+    if (!same_edition(edition, before, edition > 1 ? edition - 1 : number)) return 0;
+  return stays(before, 0, KLARVESIMO_CHANNEL_QUEUE) &&
+         stays(before, KLARVESIMO_CHANNEL_QUEUE, channel[KLARVESIMO_CHANNEL_COUNT]) &&
+         (!channel_recognizes(channel) ||
+          stays(before, KLARVESIMO_CHANNEL_THRESHOLDS, channel[KLARVESIMO_CHANNEL_COUNT])) &&
+         stays(before, KLARVESIMO_CHANNEL_NAME, channel[KLARVESIMO_CHANNEL_SIZE]);
+}
+
+struct checked checked_back(uint32_t number) {
+  uint64_t before[KLARVESIMO_CHANNEL];
+  memcpy(before, channel, ALL);
+  struct checked c = {.number = klarvesimo_back(channel, number)};
+  c.holds = channel_agrees(c.number, before) && (c.number != 0 || went_back(number, before)) &&
             held_agrees(c.number != KLARVESIMO_NOT_SOUND);
   return c;
 }

@@ -25,6 +25,7 @@ struct checked checked_open(const uint8_t *name, size_t length);
 struct checked checked_handle(const uint8_t *bytes, size_t count, size_t room);
 struct checked checked_report(uint32_t cause, uint32_t score, size_t room); /* the score by its bits */
 struct checked checked_held(size_t room); /* no more than KLARVESIMO_MOST */
+struct checked checked_back(uint32_t number);
 
 /* The numbers on 0: KLARVESIMO_FRAME_NUMBERS of them; or KLARVESIMO_HEAD, and KLARVESIMO_FIELD_NUMBERS a field. */
 struct checked checked_frame(const uint8_t *bytes, size_t count, uint64_t *numbers);

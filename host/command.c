@@ -4,6 +4,7 @@
 #include <string.h>
 
 #include "channel.h"
+#include "level.h"
 
 struct command command_make(void) {
   struct command c = {.bytes = malloc(MOST_BYTES)};
@@ -22,12 +23,12 @@ static size_t room_of(const struct script *s, const char *word) { return (size_t
 static char *parts_of(char *word) { return strcmp(word, "-") == 0 ? NULL : word; }
 
 /* the first of them, which is taken from the rest; NULL where there is none */
-static char *next_part(char **rest) {
+static char *next_part(char **rest, char between) {
   char *part = *rest;
   if (!part) return NULL;
-  char *comma = strchr(part, ',');
-  if (comma) *comma = 0;
-  *rest = comma ? comma + 1 : NULL;
+  char *end = strchr(part, between);
+  if (end) *end = 0;
+  *rest = end ? end + 1 : NULL;
   return part;
 }
 
@@ -63,7 +64,7 @@ static void take_respond(const struct script *s, struct command *c) {
   c->count = script_bytes(s, s->word[4], c->bytes);
   c->listed = 0;
   char *rest = parts_of(s->word[5]);
-  for (char *part; (part = next_part(&rest));) {
+  for (char *part; (part = next_part(&rest, ','));) {
     if (c->listed == KLARVESIMO_MOST_HELD) script_unreadable(s, "more than 16 ids");
     c->ids[c->listed++] = number32(s, part);
   }
@@ -96,12 +97,12 @@ static uint64_t prompt_of(const struct script *s, char *part) {
   return script_number(s, part, UINT64_MAX / 2) * 2 + (sign == '+');
 }
 
-/* `7:3f000000`, as a number of the queue and the bits of the threshold */
+/* `7:3f000000`, as a number of the queue and the threshold */
 static uint64_t recognition_of(const struct script *s, char *part, uint64_t *threshold) {
   char *colon = strchr(part, ':');
   if (!colon) script_unreadable(s, "a recognizer's queue entry without `:`");
   *colon = 0;
-  *threshold = script_bits(s, colon + 1);
+  *threshold = level_of_bits(script_bits(s, colon + 1));
   return script_number(s, part, UINT64_MAX / 2) * 2 + 1;
 }
 
@@ -110,14 +111,15 @@ static uint64_t queue_of(const struct script *s, char *word, uint64_t *channel) 
   uint64_t count = 0, *queue = channel + KLARVESIMO_CHANNEL_QUEUE;
   uint64_t *thresholds = channel + KLARVESIMO_CHANNEL_THRESHOLDS;
   char *rest = parts_of(word);
-  for (char *part; (part = next_part(&rest)); count++) {
+  for (char *part; (part = next_part(&rest, ',')); count++) {
     if (count == channel_places(channel)) script_unreadable(s, "more queue entries than there are places");
     queue[count] = channel_recognizes(channel) ? recognition_of(s, part, thresholds + count) : prompt_of(s, part);
   }
   return count;
 }
 
-/* channel HEX STATE LAST QUEUE [COUNT]: the size is that of the name given, of its bytes as many as fit are kept */
+/* channel HEX STATE LAST QUEUE [COUNT]: the size is that of the name given, of its bytes as many as fit are kept; with
+ * one edition, all unset */
 static void take_channel(const struct script *s, struct command *c) {
   uint64_t *to = c->channel;
   memset(to, 0, sizeof c->channel);
@@ -128,12 +130,54 @@ static void take_channel(const struct script *s, struct command *c) {
   if (strcmp(s->word[3], "-") != 0) to[KLARVESIMO_CHANNEL_LAST] = script_number(s, s->word[3], UINT64_MAX - 1) + 1;
   to[KLARVESIMO_CHANNEL_COUNT] = queue_of(s, s->word[4], to);
   if (s->words == 6) to[KLARVESIMO_CHANNEL_COUNT] = script_number(s, s->word[5], UINT64_MAX);
+  to[KLARVESIMO_CHANNEL_EDITIONS] = 1;
 }
 
 /* number PLACE VALUE */
 static void take_number(const struct script *s, struct command *c) {
   c->place = (size_t)script_number(s, s->word[1], KLARVESIMO_CHANNEL - 1);
   c->value = script_number(s, s->word[2], UINT64_MAX);
+}
+
+/* back N */
+static void take_back(const struct script *s, struct command *c) { c->edition = number32(s, s->word[1]); }
+
+/* `-`, `true`, `false`, `250` or `:3f000000`, as a sort and a value */
+static void setting_of(const struct script *s, const char *part, uint64_t *to) {
+  int yes = strcmp(part, "true") == 0;
+  if (strcmp(part, "-") == 0)
+    to[0] = KLARVESIMO_UNSET, to[1] = 0;
+  else if (yes || strcmp(part, "false") == 0)
+    to[0] = KLARVESIMO_FLAG, to[1] = (uint64_t)yes;
+  else if (*part == ':')
+    to[0] = KLARVESIMO_LEVEL, to[1] = level_of_bits(script_bits(s, part + 1));
+  else
+    to[0] = KLARVESIMO_MILLIS, to[1] = script_number(s, part, UINT64_MAX);
+}
+
+/* `true/250`, or on a recognizer `5000/:3f000000/-` */
+static void edition_of(const struct script *s, char *rest, size_t settings, uint64_t *to) {
+  size_t count = 0;
+  for (char *part; (part = next_part(&rest, '/')); count++) {
+    if (count == settings) script_unreadable(s, "more values in an edition than the channel has settings");
+    setting_of(s, part, to + 2 * count);
+  }
+  if (count < settings) script_unreadable(s, "fewer values in an edition than the channel has settings");
+}
+
+/* settings [EDITIONS [COUNT]] */
+static void take_settings(const struct script *s, struct command *c) {
+  uint64_t count = 0, *to = c->channel + KLARVESIMO_CHANNEL_SETTINGS;
+  if (s->words == 1) return;
+  c->verb = COMMAND_EDITIONS;
+  memset(to, 0, (KLARVESIMO_CHANNEL - KLARVESIMO_CHANNEL_SETTINGS) * sizeof *to);
+  char *rest = parts_of(s->word[1]);
+  for (char *part; (part = next_part(&rest, ',')); count++) {
+    if (count == KLARVESIMO_MOST_EDITIONS) script_unreadable(s, "more editions than are kept");
+    edition_of(s, part, channel_settings(c->current), to + KLARVESIMO_EDITION_NUMBERS * count);
+  }
+  if (s->words == 3) count = script_number(s, s->word[2], UINT64_MAX);
+  c->channel[KLARVESIMO_CHANNEL_EDITIONS] = count;
 }
 
 static void take_nothing(const struct script *s, struct command *c) { (void)s, (void)c; }
@@ -150,10 +194,12 @@ static const struct {
     {"respond", COMMAND_RESPOND, 7, 7, take_respond}, {"complete", COMMAND_COMPLETE, 5, 5, take_complete},
     {"channel", COMMAND_CHANNEL, 5, 6, take_channel}, {"number", COMMAND_NUMBER, 3, 3, take_number},
     {"numbers", COMMAND_NUMBERS, 1, 1, take_nothing}, {"show", COMMAND_SHOW, 1, 1, take_nothing},
+    {"back", COMMAND_BACK, 2, 2, take_back},          {"settings", COMMAND_SETTINGS, 1, 3, take_settings},
 };
 
-int command_next(struct script *s, struct command *c) {
+int command_next(struct script *s, struct command *c, const uint64_t *channel) {
   if (!script_next(s)) return 0;
+  c->current = channel;
   for (size_t i = 0; i < sizeof commands / sizeof *commands; i++)
     if (strcmp(s->word[0], commands[i].name) == 0) {
       if (s->words < commands[i].fewest || s->words > commands[i].most) script_unreadable(s, "this command wants another number of words");
@@ -163,4 +209,11 @@ int command_next(struct script *s, struct command *c) {
     }
   script_unreadable(s, "no such command");
   return 0;
+}
+
+void command_set(const struct command *c, uint64_t *channel) {
+  if (c->verb == COMMAND_CHANNEL) memcpy(channel, c->channel, sizeof c->channel);
+  if (c->verb == COMMAND_NUMBER) channel[c->place] = c->value;
+  for (size_t i = KLARVESIMO_CHANNEL_EDITIONS; c->verb == COMMAND_EDITIONS && i < KLARVESIMO_CHANNEL; i++)
+    channel[i] = c->channel[i];
 }

@@ -103,21 +103,33 @@ static const char *take_report(struct engine *e, char *words) {
   return NULL;
 }
 
+/* The words behind `back `: the number of an edition, which the library judges. */
+static const char *take_back(struct engine *e, const char *words) {
+  uint64_t edition = 0;
+  const char *wrong = number_read(words, UINT32_MAX, &edition);
+  if (wrong) return wrong;
+  e->asks = 1;
+  e->edition = (uint32_t)edition;
+  return NULL;
+}
+
 static void take_line(struct engine *e, char *end) {
-  static const char word[] = "report ";
+  static const char report[] = "report ", back[] = "back ";
   const char *wrong = "no such command";
   e->line++;
   *end = 0;
   if (strlen(e->text) != (size_t)(end - e->text)) /* a byte 0 */
     wrong = "a byte that no line has";
-  else if (strncmp(e->text, word, strlen(word)) == 0)
-    wrong = take_report(e, e->text + strlen(word));
+  else if (strncmp(e->text, report, strlen(report)) == 0)
+    wrong = take_report(e, e->text + strlen(report));
+  else if (strncmp(e->text, back, strlen(back)) == 0)
+    wrong = take_back(e, e->text + strlen(back));
   if (wrong) log_line("standard input, line %lu: %s", e->line, wrong);
 }
 
-/* Lines, until one is a report; what is left of a line that was too long is none. */
+/* Lines, until one is a report or asks for an edition; what is left of a line that was too long is none. */
 static void take_lines(struct engine *e) {
-  for (char *end; !e->due && (end = line_end(e)); drop_line(e, end)) {
+  for (char *end; !e->due && !e->asks && (end = line_end(e)); drop_line(e, end)) {
     if (!e->skips) take_line(e, end);
     e->skips = 0;
   }
@@ -128,6 +140,13 @@ int engine_due(struct engine *e, int64_t now) {
   uint32_t cause = e->recognizes ? KLARVESIMO_RECOGNITION_SUCCESS : KLARVESIMO_CAUSE_NORMAL;
   if (timed(e) && now - e->since >= e->left) due(e, cause, CERTAIN);
   return e->due;
+}
+
+int engine_asks(struct engine *e, uint32_t *number) {
+  int asks = e->asks;
+  *number = e->edition;
+  e->asks = 0;
+  return asks;
 }
 
 int engine_wait(const struct engine *e, int64_t now) { return timed(e) ? until_ms(e->since + e->left, now) : -1; }

@@ -1,5 +1,6 @@
 /* The speech engine, played: what it has in hand, a prompt or on a recognizer a recognition, ends after its time, or by
- * a line on standard input: `report CAUSE [ID]`, on a recognizer `report CAUSE SCORE [ID]`.
+ * a line on standard input: `report CAUSE [ID]`, on a recognizer `report CAUSE SCORE [ID]`. Among these lines `back N`
+ * is a technician's, and asks for an edition of the settings.
  *
  * It is also the example of what firmware has to do about reports, which name no request: the library takes one for
  * the first that is held. So the engine is made to follow the channel before anything is reported: engine_follow
@@ -22,7 +23,9 @@ struct engine {
   int has, runs;  /* a request is in hand; and it is not paused */
   uint64_t request;
   int64_t left, since; /* what it had left when it last began to run, and when that was */
-  int due;             /* a report is to be made: until then no line is read and no time runs out */
+  int asks;            /* a line has asked for an edition, this one: until that is answered no line is taken */
+  uint32_t edition;
+  int due; /* a report is to be made: until then no line is read and no time runs out */
   uint32_t cause;
   float score;
   int about, said; /* the report is about a request, this one; and it was said that it waits */
@@ -40,8 +43,11 @@ const char *engine_word(const struct engine *e);
 void engine_follow(struct engine *e, const uint64_t *channel, int64_t now);
 
 /* Whether a report is due: one that was, or the next line's, or, the time being over, that of a normal end or a certain
- * success. Asked after engine_follow. */
+ * success. Asked after engine_follow. The lines are taken up to one that is a report, or asks for an edition. */
 int engine_due(struct engine *e, int64_t now);
+
+/* The edition that a line asks for into number: whether there is such a line, which is answered by that. */
+int engine_asks(struct engine *e, uint32_t *number);
 
 /* Whether the report that is due comes late: it is about another request than the first held one. */
 int engine_late(const struct engine *e);

@@ -14,6 +14,7 @@
 #include "lend.h"
 
 enum { MOST_INPUT = 20000, MOST_LENT = 40000, OUTCOMES = 1 << 14 };
+enum { EDITIONS_SIZE = (KLARVESIMO_CHANNEL - KLARVESIMO_CHANNEL_EDITIONS) * sizeof(uint64_t) };
 
 /* set by the answers that an input has: which call, its number, the status, and the channel after it */
 __attribute__((section("__libfuzzer_extra_counters"))) static volatile uint8_t outcomes[OUTCOMES];
@@ -43,10 +44,15 @@ static struct checked run(const struct command *c) {
     return checked_handle(c->bytes, c->count, c->room);
   case COMMAND_REPORT:
     return checked_report(c->cause, c->score, c->room);
+  case COMMAND_BACK:
+    return checked_back(c->edition);
   case COMMAND_SHOW:
     return checked_held(c->room);
   case COMMAND_NUMBER:
     checked_channel()[c->place] = c->value;
+    return nothing;
+  case COMMAND_EDITIONS:
+    memcpy(checked_channel() + KLARVESIMO_CHANNEL_EDITIONS, c->channel + KLARVESIMO_CHANNEL_EDITIONS, EDITIONS_SIZE);
     return nothing;
   default:
     memcpy(checked_channel(), c->channel, sizeof c->channel);
@@ -69,6 +75,7 @@ static void note(const struct command *c, const struct checked *call) {
   sum = mixed(sum, (uint64_t)channel_recognizes(channel));
   sum = mixed(sum, cut(channel[KLARVESIMO_CHANNEL_STATE], KLARVESIMO_RECOGNIZED + 1));
   sum = mixed(sum, cut(channel[KLARVESIMO_CHANNEL_COUNT], KLARVESIMO_MOST_HELD + 1));
+  sum = mixed(sum, cut(channel[KLARVESIMO_CHANNEL_EDITIONS], KLARVESIMO_MOST_EDITIONS + 1));
   outcomes[(sum ^ sum >> 32) % OUTCOMES] = 1;
 }
 

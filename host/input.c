@@ -6,7 +6,8 @@ enum { GROUP = 7, MORE = 1 << GROUP, FITTED = 128 };
 
 /* by what the first byte says */
 static const enum verb verbs[] = {COMMAND_FRAME,  COMMAND_READ,    COMMAND_OPEN, COMMAND_MESSAGE, COMMAND_REPORT,
-                                  COMMAND_NUMBER, COMMAND_CHANNEL, COMMAND_SHOW, COMMAND_WHOSE};
+                                  COMMAND_NUMBER, COMMAND_CHANNEL, COMMAND_SHOW, COMMAND_WHOSE,   COMMAND_BACK,
+                                  COMMAND_EDITIONS};
 enum { VERBS = sizeof verbs / sizeof *verbs };
 
 static int has_bytes(enum verb verb) {
@@ -15,6 +16,12 @@ static int has_bytes(enum verb verb) {
 }
 
 static int has_room(enum verb verb) { return verb == COMMAND_MESSAGE || verb == COMMAND_REPORT || verb == COMMAND_SHOW; }
+
+/* where the numbers of a channel begin that the command has; they go on to the last */
+static size_t first_number(enum verb verb) {
+  if (verb == COMMAND_CHANNEL) return 0;
+  return verb == COMMAND_EDITIONS ? KLARVESIMO_CHANNEL_EDITIONS : KLARVESIMO_CHANNEL;
+}
 
 static unsigned next_byte(struct input *in) {
   if (in->left == 0) return 0;
@@ -58,7 +65,8 @@ int input_next(struct input *in, struct command *c) {
   c->verb = verbs[first % FITTED % VERBS];
   if (c->verb == COMMAND_REPORT) c->cause = (uint32_t)next_number(in), c->score = (uint32_t)next_number(in);
   if (c->verb == COMMAND_NUMBER) c->place = (size_t)(next_number(in) % KLARVESIMO_CHANNEL), c->value = next_number(in);
-  for (size_t i = 0; c->verb == COMMAND_CHANNEL && i < KLARVESIMO_CHANNEL; i++) c->channel[i] = next_number(in);
+  if (c->verb == COMMAND_BACK) c->edition = (uint32_t)next_number(in);
+  for (size_t i = first_number(c->verb); i < KLARVESIMO_CHANNEL; i++) c->channel[i] = next_number(in);
   if (has_room(c->verb)) {
     uint64_t room = next_number(in);
     c->room = room < INPUT_MOST_ROOM ? (size_t)room : INPUT_MOST_ROOM;
@@ -87,7 +95,8 @@ void input_put(FILE *to, const struct command *c) {
   fputc((int)which + (front > 0 ? FITTED : 0), to);
   if (c->verb == COMMAND_REPORT) put_number(to, c->cause), put_number(to, c->score);
   if (c->verb == COMMAND_NUMBER) put_number(to, c->place), put_number(to, c->value);
-  for (size_t i = 0; c->verb == COMMAND_CHANNEL && i < KLARVESIMO_CHANNEL; i++) put_number(to, c->channel[i]);
+  if (c->verb == COMMAND_BACK) put_number(to, c->edition);
+  for (size_t i = first_number(c->verb); i < KLARVESIMO_CHANNEL; i++) put_number(to, c->channel[i]);
   if (has_room(c->verb)) put_number(to, c->verb == COMMAND_SHOW ? KLARVESIMO_MOST_HELD : c->room);
   if (!has_bytes(c->verb)) return;
   put_number(to, c->count - front);

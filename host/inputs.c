@@ -33,11 +33,18 @@ static int begins(const struct command *c, int full) {
   return c->verb == COMMAND_OPEN || c->verb == COMMAND_CHANNEL || (full && belongs_to_none);
 }
 
+/* the channel after the command, as far as its name goes */
+static void follow(const struct command *c, uint64_t *channel) {
+  if (c->verb == COMMAND_OPEN) klarvesimo_open(channel, c->bytes, c->count);
+  command_set(c, channel);
+}
+
 static int make_seeds(const char *directory, struct script s) {
   struct command c = command_make();
+  uint64_t channel[KLARVESIMO_CHANNEL] = {0};
   unsigned made = 0;
   FILE *to = NULL;
-  while (command_next(&s, &c)) {
+  for (; command_next(&s, &c, channel); follow(&c, channel)) {
     int full = to && ftell(to) > ENOUGH;
     if (!to || begins(&c, full)) {
       if (to && fclose(to) != 0) cannot(directory);
@@ -51,15 +58,17 @@ static int make_seeds(const char *directory, struct script s) {
   return 0;
 }
 
-static void write_numbers(const struct command *c) {
-  for (size_t i = 0; i < KLARVESIMO_CHANNEL; i++) printf("number %zu %" PRIu64 "\n", i, c->channel[i]);
+static void write_numbers(const struct command *c, size_t from) {
+  for (size_t i = from; i < KLARVESIMO_CHANNEL; i++) printf("number %zu %" PRIu64 "\n", i, c->channel[i]);
 }
 
 static void write_line(const struct command *c) {
   static const char *const words[] = {
       [COMMAND_FRAME] = "frame", [COMMAND_READ] = "read", [COMMAND_WHOSE] = "whose", [COMMAND_OPEN] = "open"};
   if (c->verb == COMMAND_NUMBER) printf("number %zu %" PRIu64 "\n", c->place, c->value);
-  if (c->verb == COMMAND_CHANNEL) write_numbers(c);
+  if (c->verb == COMMAND_CHANNEL) write_numbers(c, 0);
+  if (c->verb == COMMAND_EDITIONS) write_numbers(c, KLARVESIMO_CHANNEL_EDITIONS);
+  if (c->verb == COMMAND_BACK) printf("back %" PRIu32 "\n", c->edition);
   if (c->verb == COMMAND_SHOW) puts("show");
   if (c->verb == COMMAND_REPORT) printf("report %" PRIu32 " %zu %08" PRIx32 "\n", c->cause, c->room, c->score);
   if (c->verb == COMMAND_MESSAGE) printf("message %zu ", c->room);

@@ -75,8 +75,9 @@ static void play_whose(const struct command *c) {
 static void (*const plays[])(const struct command *c) = {
     [COMMAND_FRAME] = play_frame,     [COMMAND_READ] = play_read,         [COMMAND_WHOSE] = play_whose,
     [COMMAND_OPEN] = play_open,       [COMMAND_MESSAGE] = play_message,   [COMMAND_REPORT] = play_report,
-    [COMMAND_RESPOND] = play_respond, [COMMAND_COMPLETE] = play_complete, [COMMAND_CHANNEL] = play_channel,
-    [COMMAND_NUMBER] = play_number,   [COMMAND_NUMBERS] = play_numbers,   [COMMAND_SHOW] = play_show,
+    [COMMAND_BACK] = play_back,       [COMMAND_RESPOND] = play_respond,   [COMMAND_COMPLETE] = play_complete,
+    [COMMAND_CHANNEL] = play_set,     [COMMAND_NUMBER] = play_set,        [COMMAND_EDITIONS] = play_set,
+    [COMMAND_NUMBERS] = play_numbers, [COMMAND_SHOW] = play_show,         [COMMAND_SETTINGS] = play_settings,
 };
 
 int main(int words, char **word) {
@@ -86,6 +87,6 @@ int main(int words, char **word) {
   struct command c = command_make();
   lend_begin(MOST_BYTES, front);
   checked_begin();
-  while (command_next(&s, &c)) plays[c.verb](&c);
+  while (command_next(&s, &c, checked_channel())) plays[c.verb](&c);
   return script_end(&s);
 }

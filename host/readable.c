@@ -1,6 +1,10 @@
 #include "readable.h"
 
+#include <inttypes.h>
+
 #include "../include/klarvesimo.h"
+#include "channel.h"
+#include "level.h"
 
 const char *readable(uint8_t byte) {
   static const char *const escaped[] = {['\t'] = "\\t", ['\n'] = "\\n", ['\r'] = "\\r"};
@@ -75,6 +79,35 @@ const char *cause_word(int recognizes, uint32_t cause) {
   return "no such cause";
 }
 
+/* what is kept of a setting, right or wrong */
+static void put_value(char *to, size_t room, const uint64_t *value) {
+  uint64_t sort = value[0], number = value[1];
+  if (sort == KLARVESIMO_UNSET)
+    snprintf(to, room, "unset");
+  else if (sort == KLARVESIMO_FLAG && number <= 1)
+    snprintf(to, room, "%s", number ? "true" : "false");
+  else if (sort == KLARVESIMO_MILLIS)
+    snprintf(to, room, "%" PRIu64 " ms", number);
+  else if (sort == KLARVESIMO_LEVEL && number <= LEVEL_ONE)
+    snprintf(to, room, "%" PRIu64 ".%06" PRIu64, number / LEVEL_ONE, number % LEVEL_ONE);
+  else if (sort == KLARVESIMO_LEVEL)
+    snprintf(to, room, "(no level: %" PRIu64 ")", number);
+  else
+    snprintf(to, room, "(sort %" PRIu64 ": %" PRIu64 ")", sort, number);
+}
+
+const char *edition_text(const uint64_t *channel, size_t edition) {
+  static char text[320]; /* more than three names with their longest values */
+  char value[64];
+  size_t at = 0;
+  for (size_t i = 0; i < channel_settings(channel); i++) {
+    const char *between = i > 0 ? ", " : "", *name = channel_setting(channel, i)->name;
+    put_value(value, sizeof value, channel_value(channel, edition, i));
+    at += (size_t)snprintf(text + at, sizeof text - at, "%s%s %s", between, name, value);
+  }
+  return text;
+}
+
 const char *refusal_meaning(uint32_t number) {
   static const char *const meanings[] = {
       [KLARVESIMO_MORE_BYTES] = "more bytes needed",
@@ -88,6 +121,7 @@ const char *refusal_meaning(uint32_t number) {
       [KLARVESIMO_NO_CAUSE] = "engine cause above 7, on a recognizer above 15",
       [KLARVESIMO_MALFORMED_NAME] = "channel name malformed at opening",
       [KLARVESIMO_NO_SCORE] = "engine score that is no number",
+      [KLARVESIMO_NOT_KEPT] = "no edition of that number is kept",
       [KLARVESIMO_NOT_SOUND] = "the channel handed in is not sound",
   };
   return number < sizeof meanings / sizeof *meanings && meanings[number] ? meanings[number] : "no such number";

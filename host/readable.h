@@ -1,4 +1,4 @@
-/* Bytes, causes and refusals for people. */
+/* Bytes, causes, settings and refusals for people. */
 #ifndef READABLE_H
 #define READABLE_H
 
@@ -17,6 +17,9 @@ void write_arrow(const char *arrow, const uint8_t *bytes, size_t count);
 
 /* The word of a cause of a synthesizer, or a recognizer. */
 const char *cause_word(int recognizes, uint32_t cause);
+
+/* An edition of a channel's settings for people, until the next call: `Kill-On-Barge-In true, Fetch-Timeout 250 ms`. */
+const char *edition_text(const uint64_t *channel, size_t edition);
 
 /* In the words of documents 01 and 02. */
 const char *refusal_meaning(uint32_t number);

@@ -20,7 +20,7 @@
 enum { OUT_OF_BALANCE = 3, LONGEST = 80 };
 
 static struct script script;
-static uint64_t channel[KLARVESIMO_CHANNEL];
+static uint64_t channel[KLARVESIMO_CHANNEL] = {[KLARVESIMO_CHANNEL_EDITIONS] = 1};
 static uint8_t out[MOST_ROOM];
 static struct ledger ledger;
 static int checked = 1; /* not from a line that sets the channel to the next `open`: nothing was accepted then */
@@ -164,6 +164,42 @@ static void note_message(const struct command *c, uint32_t number, size_t writte
     note_not_accepted((uint32_t)in[KLARVESIMO_ID], number, written);
 }
 
+/* whether a field is a timeout, by its name */
+static int is_timeout(const uint64_t *name) {
+  static const char tail[] = "-Timeout";
+  return name[1] >= strlen(tail) && memcmp(out + name[0] + name[1] - strlen(tail), tail, strlen(tail)) == 0;
+}
+
+/* the settings that an answer tells, which the library wrote: all fields but the channel's name */
+static void write_told(const uint64_t *answer) {
+  const uint64_t *identifier = message_field(out, answer, "Channel-Identifier");
+  const char *between = "== told: ";
+  for (uint64_t f = 0; f < answer[KLARVESIMO_FIELDS]; f++) {
+    const uint64_t *field = answer + KLARVESIMO_HEAD + KLARVESIMO_FIELD_NUMBERS * f;
+    const uint64_t *name = field + KLARVESIMO_FIELD_NAME, *value = field + KLARVESIMO_FIELD_VALUE;
+    if (value == identifier) continue;
+    fputs(between, stdout);
+    write_readable(stdout, out + name[0], (size_t)name[1]);
+    fputs(value[1] > 0 ? " " : " unset", stdout);
+    write_readable(stdout, out + value[0], (size_t)value[1]);
+    if (value[1] > 0 && is_timeout(name)) fputs(" ms", stdout);
+    between = ", ";
+  }
+  puts("\n");
+}
+
+static void write_settings_now(void) { printf("== settings now: %s\n\n", edition_text(channel, 1)); }
+
+/* what a SET-PARAMS has set, or a GET-PARAMS was told, where it succeeded */
+static void tell_params(const struct command *c, size_t written) {
+  uint64_t in[KLARVESIMO_MOST], answer[KLARVESIMO_MOST], consumed;
+  if (klarvesimo_read(out, written, answer, KLARVESIMO_MOST, &consumed) != 0) return;
+  if (answer[KLARVESIMO_STATUS] != 200 && answer[KLARVESIMO_STATUS] != 201) return;
+  if (klarvesimo_read(c->bytes, c->count, in, KLARVESIMO_MOST, &consumed) != 0) return;
+  if (message_is(c->bytes, in, "SET-PARAMS")) write_settings_now();
+  if (message_is(c->bytes, in, "GET-PARAMS")) write_told(answer);
+}
+
 static void tell_message(const struct command *c) {
   uint64_t frame[KLARVESIMO_FRAME_NUMBERS], counts[KLARVESIMO_COUNTS];
   int framed = klarvesimo_frame(c->bytes, c->count, frame, KLARVESIMO_FRAME_NUMBERS) == 0;
@@ -176,6 +212,7 @@ static void tell_message(const struct command *c) {
   struct entry e = entry_of_message(c->bytes, c->count, number, out, written);
   note_message(c, number, written, &e);
   enter(&e);
+  tell_params(c, written);
 }
 
 /* what the event at `at` says of its request, and the cause that it names: the event's length, 0 where it is none */
@@ -218,6 +255,25 @@ static void tell_report(const struct command *c) {
   enter(&e);
 }
 
+static void tell_back(const struct command *c) {
+  printf("** going back to edition %" PRIu32 "\n", c->edition);
+  uint32_t number = klarvesimo_back(channel, c->edition);
+  enter(&(struct entry){.kind = ENTRY_NOTHING});
+  if (number)
+    write_refused(number);
+  else
+    write_settings_now();
+}
+
+/* the editions kept, by their numbers, and the count where they do not show it */
+static void write_settings(FILE *to) {
+  uint64_t count = channel[KLARVESIMO_CHANNEL_EDITIONS];
+  const char *between = "settings: ";
+  for (size_t edition = 1; edition <= channel_editions(channel); edition++, between = "; ")
+    fprintf(to, "%s%zu. %s", between, edition, edition_text(channel, edition));
+  if (count == 0 || count > KLARVESIMO_MOST_EDITIONS) fprintf(to, "%scount %" PRIu64, between, count);
+}
+
 /* a message outside any channel */
 static void tell_written(uint32_t number, uint64_t written) {
   fputs("== written: ", stdout);
@@ -240,24 +296,18 @@ static void tell_complete(const struct command *c) {
   tell_written(number, written);
 }
 
-static void set_by_the_script(void) {
+static void tell_set(const struct command *c) {
   FILE *to = title_begin();
+  command_set(c, channel);
   fputs("set by the script: ", to);
-  write_channel(to);
+  if (c->verb == COMMAND_EDITIONS)
+    write_settings(to);
+  else
+    write_channel(to);
   fflush(to);
   printf("== %s\n\n", title);
   title_end(to);
   checked = 0;
-}
-
-static void tell_channel(const struct command *c) {
-  memcpy(channel, c->channel, sizeof channel);
-  set_by_the_script();
-}
-
-static void tell_number(const struct command *c) {
-  channel[c->place] = c->value;
-  set_by_the_script();
 }
 
 static void tell_numbers(const struct command *c) {
@@ -274,11 +324,19 @@ static void tell_show(const struct command *c) {
   puts("\n");
 }
 
+static void tell_settings(const struct command *c) {
+  (void)c;
+  fputs("== ", stdout);
+  write_settings(stdout);
+  puts("\n");
+}
+
 static void (*const tells[])(const struct command *c) = {
     [COMMAND_FRAME] = tell_frame,     [COMMAND_READ] = tell_read,         [COMMAND_WHOSE] = tell_whose,
     [COMMAND_OPEN] = tell_open,       [COMMAND_MESSAGE] = tell_message,   [COMMAND_REPORT] = tell_report,
-    [COMMAND_RESPOND] = tell_respond, [COMMAND_COMPLETE] = tell_complete, [COMMAND_CHANNEL] = tell_channel,
-    [COMMAND_NUMBER] = tell_number,   [COMMAND_NUMBERS] = tell_numbers,   [COMMAND_SHOW] = tell_show,
+    [COMMAND_BACK] = tell_back,       [COMMAND_RESPOND] = tell_respond,   [COMMAND_COMPLETE] = tell_complete,
+    [COMMAND_CHANNEL] = tell_set,     [COMMAND_NUMBER] = tell_set,        [COMMAND_EDITIONS] = tell_set,
+    [COMMAND_NUMBERS] = tell_numbers, [COMMAND_SHOW] = tell_show,         [COMMAND_SETTINGS] = tell_settings,
 };
 
 int main(int words, char **word) {
@@ -288,7 +346,7 @@ int main(int words, char **word) {
   FILE *to = title_begin();
   fputs("before any opening", to);
   title_end(to);
-  while (command_next(&script, &c)) tells[c.verb](&c);
+  while (command_next(&script, &c, channel)) tells[c.verb](&c);
   prompts_write();
   return script_end(&script);
 }

@@ -50,8 +50,8 @@
  *  - arrays of uint64_t aligned to 8 bytes, as C compilers do. Bytes may begin anywhere: on ARM they are also loaded by
  *    words that are not aligned, so the processor must take that: as a Cortex-M4 does unless CCR.UNALIGN_TRP is set,
  *    and a Cortex-A in normal memory unless SCTLR.A is set;
- *  - at most 4 KB of stack. No call takes more of it, whatever is lent, than 3,488 bytes on x86-64, 3,408 on aarch64,
- *    2,832 on arm, 3,040 on thumbv7em; what the functions named above take for themselves comes on top of that;
+ *  - at most 8 KB of stack. No call takes more of it, whatever is lent, than 6,976 bytes on x86-64, 7,072 on aarch64,
+ *    5,784 on arm, 6,816 on thumbv7em; what the functions named above take for themselves comes on top of that;
  *  - on x86-64 the red zone of that ABI: up to 128 bytes below the stack pointer are in use, so what interrupts a call
  *    and runs on its stack must leave them as they are. There is none on ARM;
  *  - floating-point numbers as C begins with them: rounded to nearest, and subnormal ones taken as they are. So it is
@@ -92,6 +92,7 @@ enum {
   KLARVESIMO_NO_CAUSE = 9,        /* an engine cause above 7, on a recognizer above 15 */
   KLARVESIMO_MALFORMED_NAME = 10, /* the channel name is malformed */
   KLARVESIMO_NO_SCORE = 11,       /* on a recognizer, an engine score that is no number */
+  KLARVESIMO_NOT_KEPT = 12,       /* no edition of the settings is kept under that number */
   KLARVESIMO_NOT_SOUND = 21       /* the channel handed in is not sound */
 };
 
@@ -103,7 +104,8 @@ enum {
   KLARVESIMO_LONGEST_REPORT = 1250, /* what a report writes on either kind: on a recognizer up to eight events */
   KLARVESIMO_LONGEST_NAME = 44,     /* a channel's */
   KLARVESIMO_MOST_HELD = 16,        /* requests outstanding: SPEAKs on a synthesizer */
-  KLARVESIMO_MOST_RECOGNITIONS = 8  /* RECOGNIZEs, on a recognizer */
+  KLARVESIMO_MOST_RECOGNITIONS = 8, /* RECOGNIZEs, on a recognizer */
+  KLARVESIMO_MOST_EDITIONS = 4      /* editions of the settings that are kept */
 };
 
 /* Where does the message at the front of `bytes` end? It looks at 31 bytes at most. On 0 these numbers are in out: */
@@ -139,7 +141,9 @@ enum {
 enum { KLARVESIMO_REQUEST = 1, KLARVESIMO_RESPONSE = 2, KLARVESIMO_EVENT = 3 };
 enum { KLARVESIMO_PENDING = 1, KLARVESIMO_IN_PROGRESS = 2, KLARVESIMO_COMPLETE = 3 };
 
-/* The numbers of the known names, whose case does not matter; and their bits in KLARVESIMO_KNOWN. */
+/* The numbers of the known names, whose case does not matter; and their bits in KLARVESIMO_KNOWN. A known name that
+ * comes twice is bad fields. The last three count as known in SET-PARAMS and GET-PARAMS requests alone: elsewhere they
+ * may come twice, and their bit is set all the same. */
 enum {
   KLARVESIMO_CHANNEL_IDENTIFIER,
   KLARVESIMO_CONTENT_LENGTH,
@@ -148,8 +152,11 @@ enum {
   KLARVESIMO_KILL_ON_BARGE_IN,
   KLARVESIMO_PROXY_SYNC_ID,
   KLARVESIMO_LOGGING_TAG,
-  KLARVESIMO_OTHER_NAME, /* any that is not known */
-  KLARVESIMO_CONFIDENCE_THRESHOLD
+  KLARVESIMO_OTHER_NAME, /* any that is not listed here */
+  KLARVESIMO_CONFIDENCE_THRESHOLD,
+  KLARVESIMO_FETCH_TIMEOUT,
+  KLARVESIMO_NO_INPUT_TIMEOUT,
+  KLARVESIMO_SENSITIVITY_LEVEL
 };
 enum {
   KLARVESIMO_HAS_CHANNEL_IDENTIFIER = 1 << KLARVESIMO_CHANNEL_IDENTIFIER,
@@ -160,7 +167,10 @@ enum {
   KLARVESIMO_HAS_PROXY_SYNC_ID = 1 << KLARVESIMO_PROXY_SYNC_ID,
   KLARVESIMO_HAS_LOGGING_TAG = 1 << KLARVESIMO_LOGGING_TAG,
   KLARVESIMO_HAS_OTHER_NAME = 1 << KLARVESIMO_OTHER_NAME,
-  KLARVESIMO_HAS_CONFIDENCE_THRESHOLD = 1 << KLARVESIMO_CONFIDENCE_THRESHOLD
+  KLARVESIMO_HAS_CONFIDENCE_THRESHOLD = 1 << KLARVESIMO_CONFIDENCE_THRESHOLD,
+  KLARVESIMO_HAS_FETCH_TIMEOUT = 1 << KLARVESIMO_FETCH_TIMEOUT,
+  KLARVESIMO_HAS_NO_INPUT_TIMEOUT = 1 << KLARVESIMO_NO_INPUT_TIMEOUT,
+  KLARVESIMO_HAS_SENSITIVITY_LEVEL = 1 << KLARVESIMO_SENSITIVITY_LEVEL
 };
 
 /* Field f, from 0, has four numbers, at out[KLARVESIMO_HEAD + KLARVESIMO_FIELD_NUMBERS * f] and after. An out shorter
@@ -198,14 +208,15 @@ enum { KLARVESIMO_LOOKED_AT = 128 };
 /* 0, 1, 2, 4 or 5. */
 uint32_t klarvesimo_whose(const uint8_t *bytes, uint64_t count, uint64_t *id);
 
-/* A channel is these 64 numbers, which the caller keeps and hands in again. Its name says of which kind it is: 1 to 32
+/* A channel is these 89 numbers, which the caller keeps and hands in again. Its name says of which kind it is: 1 to 32
  * ASCII letters or digits, then `@speechsynth` for a synthesizer or `@speechrecog` for a recognizer.
  *
  * Any numbers at all may come in. A channel is sound if its name is well formed and its state one of its kind; it is
  * speaking or paused, or recognizing, exactly while anything is outstanding; at most 16 are, on a recognizer at most 8;
- * and their ids rise in queue order with none above the last seen (none seen: idle). One that is not, or in which a
- * number is outside the range given here, gets 21 from every call. Numbers of the queue and of the thresholds past the
- * count, and of the name past its size, are not looked at; a call that returns 0 writes all 64 anew, and those as 0. */
+ * their ids rise in queue order with none above the last seen (none seen: idle); and one to four editions of its
+ * settings are kept. One that is not, or in which a number is outside the range given here, gets 21 from every call.
+ * Numbers of the queue and of the thresholds past the count, of the name past its size, and of the editions past
+ * theirs, are not looked at; a call that returns 0 writes all 89 anew, and those as 0. */
 enum {
   KLARVESIMO_CHANNEL_STATE,           /* one of the five below */
   KLARVESIMO_CHANNEL_LAST,            /* 0 where no request was seen; else the last id seen, and 1 more: at most
@@ -216,11 +227,11 @@ enum {
                                        * as its id times 2, and 1 more where barge-in kills it; a recognizer's has the
                                        * 1 always, and no call goes by it there */
   KLARVESIMO_CHANNEL_THRESHOLDS = 12, /* on a recognizer 8 numbers: the Confidence-Threshold of each, in the same order,
-                                       * as the 32 bits of a single-precision number. Any 32 bits are in range: what
-                                       * the caller hands in comes back as it was. On a synthesizer these are the
-                                       * queue's */
+                                       * in millionths: at most 1,000,000. On a synthesizer these are the queue's */
   KLARVESIMO_CHANNEL_NAME = 20,       /* 44 numbers: the name, a byte in each */
-  KLARVESIMO_CHANNEL = 64             /* how many numbers there are */
+  KLARVESIMO_CHANNEL_EDITIONS = 64,   /* how many editions of the settings are kept: 1 to 4 */
+  KLARVESIMO_CHANNEL_SETTINGS = 65,   /* 24 numbers: the editions, the newest first, six numbers each, as below */
+  KLARVESIMO_CHANNEL = 89             /* how many numbers there are */
 };
 enum {
   KLARVESIMO_IDLE = 0,        /* of either kind */
@@ -230,14 +241,41 @@ enum {
   KLARVESIMO_RECOGNIZED = 4   /* nothing is outstanding, and a report has ended the last one */
 };
 
-/* Opens a channel of either kind: idle, with nothing outstanding and no request seen. 0; or 10, and then the name in
- * the channel is empty, so it is not sound. All 64 numbers are written in either case. */
+/* The settings of a channel: what the client wants to hold until it says otherwise. SET-PARAMS sets them and GET-PARAMS
+ * asks for them, in every state. Each SET-PARAMS that succeeds makes a new edition, in which what it did not name is as
+ * before; the last four are kept, and klarvesimo_back goes back to one of them. A SPEAK without Kill-On-Barge-In, and a
+ * RECOGNIZE without Confidence-Threshold, takes the setting as it is then, and keeps it whatever is set later; where
+ * that is unset, the default: true, and 0. The other settings the library only keeps: they are for the engine.
+ *
+ * An edition has two numbers for each setting of its kind, its sort and its value, in this order:
+ *
+ *    on a synthesizer    Kill-On-Barge-In, a flag; Fetch-Timeout, milliseconds. The third pair is not looked at, and
+ *                        written as 0
+ *    on a recognizer     No-Input-Timeout, milliseconds; Confidence-Threshold, a level; Sensitivity-Level, a level
+ *
+ * The sort is that one, or KLARVESIMO_UNSET. So a service bench reads a setting off the channel that it was handed:
+ *
+ *    const uint64_t *newest = channel + KLARVESIMO_CHANNEL_SETTINGS, *before = newest + KLARVESIMO_EDITION_NUMBERS;
+ *    if (newest[2] == KLARVESIMO_MILLIS) show_fetch_timeout(newest[3]);  // a synthesizer's second setting
+ *    if (channel[KLARVESIMO_CHANNEL_EDITIONS] > 1 && before[2] == KLARVESIMO_MILLIS) show_as_it_was(before[3]); */
+enum {
+  KLARVESIMO_UNSET,  /* the value is not looked at, and written as 0 */
+  KLARVESIMO_FLAG,   /* 0 is false, 1 true */
+  KLARVESIMO_MILLIS, /* at most 9,999,999,999,999,999,999: the client writes 1 to 19 digits */
+  KLARVESIMO_LEVEL   /* in millionths, at most 1,000,000 */
+};
+enum { KLARVESIMO_EDITION_NUMBERS = 6 };
+
+/* Opens a channel of either kind: idle, with nothing outstanding, no request seen, and one edition of its settings, all
+ * unset. 0; or 10, and then the name in the channel is empty, so it is not sound. All 89 numbers are written in either
+ * case. */
 uint32_t klarvesimo_open(uint64_t *channel, const uint8_t *name, uint64_t length);
 
 /* Handles the client's message at the front of `bytes`, and nothing past it: judges the request, does what it asks, and
  * writes the exact response to the front of out. A request that fails is handled too: its status is in the response,
- * and of the channel at most the last id has changed. 0, 1 to 6, 7 or 21; KLARVESIMO_LONGEST_ANSWER bytes of room never
- * meet 7. `counts` is set always: */
+ * and of the channel at most the last id has changed. So a SET-PARAMS sets all that it names, or, where it is answered
+ * 403 (a field that is no setting of this kind) or 404 (a value that is none), nothing. 0, 1 to 6, 7 or 21;
+ * KLARVESIMO_LONGEST_ANSWER bytes of room never meet 7. `counts` is set always: */
 enum {
   KLARVESIMO_CONSUMED, /* how many bytes the message had: the stated length on 0, 5 and 6, else 0 */
   KLARVESIMO_WRITTEN,  /* how many bytes of out are the response: 0 where the call is refused; those past them stay as
@@ -286,10 +324,11 @@ enum {
  *  - On a synthesizer that is SPEAK-COMPLETE, and the next prompt, if there is one, is speaking. The score is not
  *    looked at.
  *  - On a recognizer it is RECOGNITION-COMPLETE. A success (000 or 008) whose score is not greater than the request's
- *    own threshold counts as 001, no match: the threshold is 0 where the request gave none, and no score is greater
- *    than bits that are no number. After a success the next recognition, if there is one, is active. Any other cause,
- *    also one that only counts as such, ends the waiting ones too: an event with 011, cancelled, follows for each, end
- *    to end in queue order. When none is left, the channel is recognized.
+ *    own threshold counts as 001, no match. The threshold is that of the request, or of the settings when it was
+ *    accepted; its millionths are compared as the single-precision number nearest to them. After a success the next
+ *    recognition, if there is one, is active. Any other cause, also one that only counts as such, ends the waiting ones
+ *    too: an event with 011, cancelled, follows for each, end to end in queue order. When none is left, the channel is
+ *    recognized.
  *
  * 0, 7, 8, 9, 11 or 21. A score that is no number gets 11 on a recognizer whatever the cause is; an infinity is a
  * number. 7 is about all events of the call together, and then none is written: KLARVESIMO_LONGEST_REPORT bytes of room
@@ -314,6 +353,13 @@ uint32_t klarvesimo_report(uint64_t *channel, uint32_t cause, float score, uint8
  * past them stay as they were. 0; 7 where there are more than `room`; or 21. Where it is refused, `count` is set to 0.
  * KLARVESIMO_MOST_HELD of room never meet 7. */
 uint32_t klarvesimo_held(const uint64_t *channel, uint64_t *ids, uint64_t room, uint64_t *count);
+
+/* Goes back to the edition of the settings with this number, 1 the newest: makes a further edition equal to it, which
+ * is number 1 then. The others move one on, and a fifth is kept no more. It may come between any two calls: all else of
+ * the channel stays as it was, the requests that are outstanding too, each with what it took when it was accepted; and
+ * nothing is written to the client. 0; 21; or, after that, 12 where no edition of this number is kept: 0 never is. A
+ * refused call changes nothing. */
+uint32_t klarvesimo_back(uint64_t *channel, uint32_t number);
 
 #ifdef __cplusplus
 }

@@ -2,10 +2,11 @@
 //! times over, for a tool that counts instructions.
 
 use std::hint::black_box;
+use std::ops::RangeInclusive;
 
 use crate::kept::{self, Kept};
 use crate::start_line::RequestState;
-use crate::writing::{with_own_digits, Answer, Ids, Outgoing};
+use crate::writing::{with_own_digits, Answer, Ids, Outgoing, NOTHING_TOLD};
 
 const NAME: &str = "7f3a@speechsynth";
 const RECOGNIZER: &str = "7f3a@speechrecog";
@@ -76,6 +77,7 @@ fn answer_of(case: &str) -> Option<(Vec<u8>, Answer)> {
         status: 200,
         state,
         list,
+        told: NOTHING_TOLD,
     };
     Some((name.as_bytes().to_vec(), answer))
 }
@@ -108,19 +110,39 @@ fn recognize(name: &str, id: u32) -> Vec<u8> {
     request(name, "RECOGNIZE", id, rest)
 }
 
-/// What is called: with a client's message, or with the engine's cause.
+/// SET-PARAMS of all settings of a kind.
+fn set_params(name: &str, id: u32) -> Vec<u8> {
+    let settings = match name {
+        NAME => "Kill-On-Barge-In:false\r\nFetch-Timeout:2500\r\n\r\n",
+        _ => {
+            "No-Input-Timeout:5000\r\nConfidence-Threshold:0.5\r\n\
+             Sensitivity-Level:0.75\r\n\r\n"
+        }
+    };
+    request(name, "SET-PARAMS", id, settings)
+}
+
+/// What is called: with a client's message, the engine's cause, or the number
+/// of an edition.
 enum Call {
     Message(Vec<u8>),
     Report(u32),
+    Back(u32),
 }
 
-/// One call; how many bytes it wrote.
+/// One call; how many bytes it wrote, or, since going back writes none, how many
+/// editions are kept.
 fn call(channel: &mut Kept, what: &Call, output: &mut [u8]) -> Option<usize> {
     let outcome = match what {
         Call::Message(input) => channel.handle(input, output),
         Call::Report(cause) => channel.report(*cause, 0.0, output),
+        Call::Back(number) => channel.back(*number),
     };
-    (outcome.number == 0).then_some(outcome.written)
+    let gives = match what {
+        Call::Back(_) => channel.0[kept::KEPT] as usize,
+        _ => outcome.written,
+    };
+    (outcome.number == 0).then_some(gives)
 }
 
 /// A channel after these calls.
@@ -169,6 +191,32 @@ fn prepared_after(calls: u32) -> Option<Kept> {
     prepared_by(NAME, turns)
 }
 
+/// A channel after SET-PARAMS of all settings, with each of these ids.
+fn prepared_settings(name: &str, ids: RangeInclusive<u32>) -> Option<Kept> {
+    prepared_by(name, ids.map(|id| Call::Message(set_params(name, id))))
+}
+
+/// The calls about settings.
+fn settings_call_of(case: &str) -> Option<(Kept, Call)> {
+    let set = |name: &str| (Kept::open(name.as_bytes()).0, set_params(name, 7));
+    let get = |name| {
+        Some((
+            prepared_settings(name, 7..=7)?,
+            request(name, "GET-PARAMS", 8, "\r\n"),
+        ))
+    };
+    let (channel, message) = match case {
+        "call-set-params" => set(NAME),
+        "call-set-params-r" => set(RECOGNIZER),
+        "call-get-params" => get(NAME)?,
+        "call-get-params-r" => get(RECOGNIZER)?,
+        "call-speak-4" => (prepared_settings(NAME, 10..=13)?, speak(14)),
+        "call-back" => return Some((prepared_settings(NAME, 10..=13)?, Call::Back(2))),
+        _ => return None,
+    };
+    Some((channel, Call::Message(message)))
+}
+
 /// The channel before the call, and the call.
 fn call_of(case: &str) -> Option<(Kept, Call)> {
     let message = |name, method, id, rest| Call::Message(request(name, method, id, rest));
@@ -194,7 +242,7 @@ fn call_of(case: &str) -> Option<(Kept, Call)> {
         ),
         "call-after-0001" => (prepared_after(1)?, Call::Message(speak(2_000_000))),
         "call-after-1000" => (prepared_after(1000)?, Call::Message(speak(2_000_000))),
-        _ => return None,
+        _ => return settings_call_of(case),
     })
 }
 
@@ -288,7 +336,7 @@ fn helds(count: usize) -> Option<usize> {
     Some(sum)
 }
 
-/// Makes the calls and gives the sum of the lengths, or ids; None for a case that there is not.
+/// Makes the calls and gives the sum of the lengths, ids or counts; None for a case that there is not.
 pub fn run(case: &str, count: usize) -> Option<usize> {
     match case {
         "whose" => return asks_whose(count),

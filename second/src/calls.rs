@@ -1,4 +1,5 @@
-//! The two calls on a channel: a client's message and an engine's report.
+//! The calls on a channel: a client's message, an engine's report, and going
+//! back to an edition of its settings.
 
 use crate::channel::{Channel, Kind};
 use crate::framing::{frame, Frame};
@@ -85,6 +86,21 @@ impl Channel {
             Some(written) => {
                 *self = next;
                 Outcome::handled(0, written)
+            }
+        }
+    }
+
+    /// Going back to an edition "by number, 1 the newest, makes a further edition
+    /// equal to it": 21, then 12.
+    pub fn back(&mut self, number: u32) -> Outcome {
+        if !self.is_sound() {
+            return Outcome::refused(Refusal::NotSound, 0);
+        }
+        match self.editions.numbered(number) {
+            None => Outcome::refused(Refusal::NotKept, 0),
+            Some(edition) => {
+                self.editions.add(edition);
+                Outcome::handled(0, 0)
             }
         }
     }

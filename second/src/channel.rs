@@ -1,14 +1,41 @@
 //! The channel: what is kept of it, when it is sound, and its opening.
 
+use crate::fields::Known;
 use crate::level::Level;
 use crate::octets::{is, NAME};
 use crate::refusal::Refusal;
+use crate::settings::{Editions, Setting, Sort, Value};
 
 /// The most that are outstanding on a channel of any kind.
 pub const MOST_OUTSTANDING: usize = 16;
 /// "1 to 32 ASCII letters or digits, then" the resource.
 const LONGEST_FIRST_PART: usize = 32;
 pub const LONGEST_NAME: usize = LONGEST_FIRST_PART + Kind::Synthesizer.resource().len();
+
+const SYNTHESIZER_SETTINGS: [Setting; 2] = [
+    Setting {
+        field: Known::KillOnBargeIn,
+        sort: Sort::Flag,
+    },
+    Setting {
+        field: Known::FetchTimeout,
+        sort: Sort::Millis,
+    },
+];
+const RECOGNIZER_SETTINGS: [Setting; 3] = [
+    Setting {
+        field: Known::NoInputTimeout,
+        sort: Sort::Millis,
+    },
+    Setting {
+        field: Known::ConfidenceThreshold,
+        sort: Sort::Level,
+    },
+    Setting {
+        field: Known::SensitivityLevel,
+        sort: Sort::Level,
+    },
+];
 
 /// Which resource a channel is for; its name tells.
 #[derive(Clone, Copy, Debug, PartialEq, Eq)]
@@ -40,6 +67,15 @@ impl Kind {
         match self {
             Kind::Synthesizer => MOST_OUTSTANDING,
             Kind::Recognizer => 8,
+        }
+    }
+
+    /// "Kill-On-Barge-In and Fetch-Timeout for the synthesizer, No-Input-Timeout,
+    /// Confidence-Threshold and Sensitivity-Level for the recognizer."
+    pub fn settings(self) -> &'static [Setting] {
+        match self {
+            Kind::Synthesizer => &SYNTHESIZER_SETTINGS,
+            Kind::Recognizer => &RECOGNIZER_SETTINGS,
         }
     }
 
@@ -133,17 +169,18 @@ pub struct Held {
     pub id: u32,
     /// Barge-in asks a SPEAK; a RECOGNIZE is never asked.
     pub killable: bool,
-    /// The level that a RECOGNIZE gave.
+    /// The level that a RECOGNIZE gave, or the setting of that moment.
     pub threshold: Level,
 }
 
 impl Held {
-    /// What a SPEAK is without Kill-On-Barge-In and a RECOGNIZE without Confidence-Threshold.
+    /// What a SPEAK is without Kill-On-Barge-In and a RECOGNIZE without
+    /// Confidence-Threshold, where these settings are unset too.
     pub fn by_default(id: u32) -> Held {
         Held {
             id,
             killable: true,
-            threshold: Level(0),
+            threshold: Level::ZERO,
         }
     }
 }
@@ -160,7 +197,7 @@ impl Queue {
         stored: [Held {
             id: 0,
             killable: false,
-            threshold: Level(0),
+            threshold: Level::ZERO,
         }; MOST_OUTSTANDING],
         count: 0,
     };
@@ -183,6 +220,7 @@ pub struct Channel {
     /// The last request-id seen; none on a fresh channel.
     pub last: Option<u32>,
     pub queue: Queue,
+    pub editions: Editions,
 }
 
 impl Channel {
@@ -192,6 +230,7 @@ impl Channel {
         state: State::Idle,
         last: None,
         queue: Queue::EMPTY,
+        editions: Editions::FRESH,
     };
 
     /// "An opened channel is idle, with an empty queue and no request seen."
@@ -213,10 +252,20 @@ impl Channel {
         Kind::of_name(self.name.bytes())
     }
 
+    /// The value of one of its settings at this moment; None where it is unset,
+    /// or a setting of the other kind.
+    pub fn setting(&self, wanted: Known) -> Option<Value> {
+        let mut settings = self.kind().settings().iter();
+        let place = settings.position(|setting| setting.field == wanted)?;
+        self.editions.newest().0[place]
+    }
+
     /// "A channel is sound if its name is well formed, it is idle exactly when
     /// nothing is outstanding, at most 16 are, and their ids rise in queue order
     /// with none above the last seen (none seen: idle)." Of a recognizer, "sound
     /// asks for that rule of recognizing and at most 8 outstanding, the rest as in 01".
+    /// That there are "one to four editions, and kept settings and thresholds that
+    /// reading can give" is seen to where the numbers are read: others are none of these.
     pub fn is_sound(&self) -> bool {
         is_well_formed(self.name.bytes())
             && self.state_fits()

@@ -11,7 +11,8 @@ const LONGEST_NAME: usize = 64;
 const LENGTH_DIGITS: usize = 19;
 
 /// "Seven names are known", and Confidence-Threshold "becomes known on both
-/// kinds". The number of each is its bit in the mask.
+/// kinds"; the last three are so in SET-PARAMS and GET-PARAMS alone. The number
+/// of each is its bit in the mask.
 #[derive(Clone, Copy, Debug, PartialEq, Eq)]
 pub enum Known {
     ChannelIdentifier,
@@ -22,9 +23,15 @@ pub enum Known {
     ProxySyncId,
     LoggingTag,
     ConfidenceThreshold,
+    FetchTimeout,
+    NoInputTimeout,
+    SensitivityLevel,
 }
 
-const KNOWN: [(Known, &[u8]); 8] = [
+/// A known name as the paper spells it.
+type Name = (Known, &'static [u8]);
+
+const KNOWN: [Name; 11] = [
     (Known::ChannelIdentifier, b"Channel-Identifier"),
     (Known::ContentLength, b"Content-Length"),
     (Known::ContentType, b"Content-Type"),
@@ -33,14 +40,25 @@ const KNOWN: [(Known, &[u8]); 8] = [
     (Known::ProxySyncId, b"Proxy-Sync-Id"),
     (Known::LoggingTag, b"Logging-Tag"),
     (Known::ConfidenceThreshold, b"Confidence-Threshold"),
+    (Known::FetchTimeout, b"Fetch-Timeout"),
+    (Known::NoInputTimeout, b"No-Input-Timeout"),
+    (Known::SensitivityLevel, b"Sensitivity-Level"),
 ];
+/// How many of them, from the first on, are known in every message.
+const KNOWN_EVERYWHERE: usize = 8;
+
+/// "In SET-PARAMS and GET-PARAMS all five names count as known, on either kind."
+fn known_in(method: Option<&[u8]>) -> &'static [Name] {
+    match method {
+        Some(b"SET-PARAMS" | b"GET-PARAMS") => &KNOWN,
+        _ => &KNOWN[..KNOWN_EVERYWHERE],
+    }
+}
 
 impl Known {
-    fn of_name(name: &[u8]) -> Option<Known> {
-        KNOWN
-            .iter()
-            .find(|(_, spelling)| name.eq_ignore_ascii_case(spelling))
-            .map(|(known, _)| *known)
+    /// As the paper spells it.
+    pub fn spelling(self) -> &'static [u8] {
+        KNOWN[self as usize].1
     }
 
     fn bit(self) -> u32 {
@@ -122,8 +140,10 @@ impl<'a> Fields<'a> {
     }
 }
 
-/// Reads what follows the start line. None: judgement 2 fails it.
-pub fn read(block: &[u8]) -> Option<Fields<'_>> {
+/// Reads what follows the start line, of a request with its method. None:
+/// judgement 2 fails it.
+pub fn read<'a>(block: &'a [u8], method: Option<&[u8]>) -> Option<Fields<'a>> {
+    let names = known_in(method);
     let mut fields = Fields {
         list: [NO_FIELD; MOST_FIELDS],
         count: 0,
@@ -133,7 +153,7 @@ pub fn read(block: &[u8]) -> Option<Fields<'_>> {
     let mut rest = block;
     // "The block still ends at the first empty line."
     while !rest.starts_with(b"\r\n") {
-        let (field, after) = field(rest)?;
+        let (field, after) = field(rest, names)?;
         fields.add(field)?;
         rest = after;
     }
@@ -145,7 +165,7 @@ pub fn read(block: &[u8]) -> Option<Fields<'_>> {
 /// after. A continued line before any field has no name; a fold in the name or
 /// behind it comes before the colon; a lone CR or LF is no value byte; no CRLF
 /// is no line.
-fn field(rest: &[u8]) -> Option<(Field<'_>, &[u8])> {
+fn field<'a>(rest: &'a [u8], names: &[Name]) -> Option<(Field<'a>, &'a [u8])> {
     let colon = rest.iter().position(|&byte| !is(byte, NAME))?;
     if rest[colon] != b':' || colon == 0 || colon > LONGEST_NAME {
         return None;
@@ -159,9 +179,16 @@ fn field(rest: &[u8]) -> Option<(Field<'_>, &[u8])> {
     let field = Field {
         name,
         raw: without_folds(written),
-        known: Known::of_name(name),
+        known: known(names, name),
     };
     Some((field, &after[end + 2..]))
+}
+
+/// Which of the names it is, "compared without regard to case".
+fn known(names: &[Name], name: &[u8]) -> Option<Known> {
+    let mut names = names.iter();
+    let found = names.find(|(_, spelling)| name.eq_ignore_ascii_case(spelling));
+    found.map(|(known, _)| *known)
 }
 
 /// The place of the first CRLF that no blank follows: a field may "go on in a

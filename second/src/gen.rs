@@ -7,6 +7,7 @@ mod batch;
 mod conversation;
 mod damage;
 mod draft;
+mod editions;
 mod examples;
 mod folds;
 mod random;
@@ -34,6 +35,8 @@ pub enum Kind {
     Folds,
     /// The request-id from the start line alone.
     Whose,
+    /// Settings and their editions, on both.
+    Settings,
     Write,
     All,
 }
@@ -47,6 +50,7 @@ impl Kind {
             "recog" => Some(Kind::Recog),
             "folds" => Some(Kind::Folds),
             "whose" => Some(Kind::Whose),
+            "settings" => Some(Kind::Settings),
             "write" => Some(Kind::Write),
             "all" => Some(Kind::All),
             _ => None,
@@ -78,6 +82,7 @@ fn fill(batch: &mut Batch, random: &mut Random, kind: Kind, turn: usize) {
         Kind::Recog => conversation::calls(batch, random, Resource::Recognizer),
         Kind::Folds => folds::calls(batch, random),
         Kind::Whose => whose::calls(batch, random),
+        Kind::Settings => conversation::settings::calls(batch, random),
         Kind::Write => write::writes(batch, random, turn),
         Kind::All => mixture(batch, random),
     }
@@ -85,12 +90,13 @@ fn fill(batch: &mut Batch, random: &mut Random, kind: Kind, turn: usize) {
 
 /// Some of each kind; a conversation is long, so it is drawn less often.
 fn mixture(batch: &mut Batch, random: &mut Random) {
-    match random.below(13) {
+    match random.below(15) {
         0 | 1 => (0..30).for_each(|_| wire::frames(batch, random)),
         2..=4 => (0..30).for_each(|_| wire::reads(batch, random)),
         5 | 6 => conversation::calls(batch, random, Resource::Recognizer),
         7 | 8 => (0..10).for_each(|_| folds::calls(batch, random)),
         9 => (0..20).for_each(|_| whose::calls(batch, random)),
+        10 | 11 => (0..4).for_each(|_| conversation::settings::calls(batch, random)),
         _ => conversation::calls(batch, random, Resource::Synthesizer),
     }
 }

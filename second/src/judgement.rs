@@ -6,9 +6,11 @@ use crate::channel::{Channel, Held, Kind, State};
 use crate::fields::{self, Field, Fields, Known};
 use crate::framing::Version;
 use crate::level::Level;
+use crate::params;
+use crate::settings::{flag, Edition, Value};
 use crate::start_line::RequestState;
 use crate::states::list_of_ids;
-use crate::writing::{Answer, Ids};
+use crate::writing::{Answer, Ids, NOTHING_TOLD};
 
 #[derive(Clone, Copy, Debug, PartialEq, Eq)]
 pub struct Status(pub u16);
@@ -18,6 +20,7 @@ impl Status {
     pub const SOME_IGNORED: Status = Status(201);
     pub const METHOD_NOT_ALLOWED: Status = Status(401);
     pub const NOT_VALID_IN_STATE: Status = Status(402);
+    pub const UNSUPPORTED_FIELD: Status = Status(403);
     pub const ILLEGAL_VALUE: Status = Status(404);
     pub const NO_SUCH_CHANNEL: Status = Status(405);
     pub const FIELD_MISSING: Status = Status(406);
@@ -38,6 +41,8 @@ pub enum Method {
     BargeInOccurred,
     Recognize,
     StartInputTimers,
+    SetParams,
+    GetParams,
 }
 
 impl Method {
@@ -45,6 +50,8 @@ impl Method {
     pub fn of_name(kind: Kind, name: &[u8]) -> Option<Method> {
         match (kind, name) {
             (_, b"STOP") => Some(Method::Stop),
+            (_, b"SET-PARAMS") => Some(Method::SetParams),
+            (_, b"GET-PARAMS") => Some(Method::GetParams),
             (Kind::Synthesizer, b"SPEAK") => Some(Method::Speak),
             (Kind::Synthesizer, b"PAUSE") => Some(Method::Pause),
             (Kind::Synthesizer, b"RESUME") => Some(Method::Resume),
@@ -69,6 +76,10 @@ impl Method {
     fn wants_content(self) -> bool {
         !self.types().is_empty()
     }
+
+    fn is_about_settings(self) -> bool {
+        matches!(self, Method::SetParams | Method::GetParams)
+    }
 }
 
 /// A framed request whose start line is well formed; its fields are still unread.
@@ -91,7 +102,7 @@ pub fn judge(channel: &mut Channel, request: &Request) -> Answer {
         channel.last = Some(request.id);
         after_the_id_counts(channel, request, &fields)
     });
-    judged.unwrap_or_else(|status| answer(request, status, RequestState::Complete, Ids::NONE))
+    judged.unwrap_or_else(|status| answer(request, status))
 }
 
 /// Judgements 1 to 5.
@@ -104,7 +115,7 @@ fn before_the_id_counts<'a>(
         return Err(Status::VERSION_UNSUPPORTED);
     }
     // 2
-    let fields = fields::read(request.block).ok_or(Status::ILLEGAL_VALUE)?;
+    let fields = fields::read(request.block, Some(request.name)).ok_or(Status::ILLEGAL_VALUE)?;
     // 3
     let identifier = fields.value(Known::ChannelIdentifier);
     let identifier = identifier.ok_or(Status::FIELD_MISSING)?;
@@ -127,12 +138,7 @@ fn after_the_id_counts(
 ) -> Result<Answer, Status> {
     let method = Method::of_name(channel.kind(), request.name);
     // 6: with an unknown method none of these fields acts.
-    let held = Held {
-        killable: kill_on_barge_in(method, fields)?,
-        threshold: confidence_threshold(method, fields)?,
-        ..Held::by_default(request.id)
-    };
-    let list = active_request_id_list(method, fields)?;
+    let acting = acting(channel, method, request.id, fields)?;
     // 7
     let method = method.ok_or(Status::METHOD_NOT_ALLOWED)?;
     // 8
@@ -148,63 +154,122 @@ fn after_the_id_counts(
         }
     }
     // 11
-    let status = success(method, fields);
-    let (state, ids) = act(channel, method, held, list.as_deref());
-    Ok(answer(request, status, state, ids))
+    let mut answer = answer(request, success(method, fields));
+    act(channel, method, acting, fields, &mut answer);
+    Ok(answer)
 }
 
-/// Does what the method asks: the state of the request after it, and the ids to list.
-/// "All but SPEAK's successes answer COMPLETE", and RECOGNIZE's.
+/// Does what the method asks; the answer gets the state of the request after it, the
+/// ids to list and the settings to tell. "All but SPEAK's successes answer COMPLETE",
+/// and RECOGNIZE's.
 fn act(
     channel: &mut Channel,
     method: Method,
-    held: Held,
-    list: Option<&[u8]>,
-) -> (RequestState, Ids) {
-    let ids = match method {
-        Method::Speak | Method::Recognize => return (channel.accept(held), Ids::NONE),
-        Method::Stop => channel.stop(list),
-        Method::BargeInOccurred => channel.barge_in(),
-        Method::Pause => channel.pause(),
-        Method::Resume => channel.resume(),
-        Method::Control => channel.control(),
+    acting: Acting,
+    fields: &Fields,
+    answer: &mut Answer,
+) {
+    match method {
+        Method::Speak | Method::Recognize => answer.state = channel.accept(acting.held),
+        Method::Stop => answer.list = channel.stop(acting.list.as_deref()),
+        Method::BargeInOccurred => answer.list = channel.barge_in(),
+        Method::Pause => answer.list = channel.pause(),
+        Method::Resume => answer.list = channel.resume(),
+        Method::Control => answer.list = channel.control(),
+        Method::SetParams => channel.editions.add(acting.edition),
+        Method::GetParams => answer.told = params::told(channel, fields),
         // "No change, no list."
-        Method::StartInputTimers => Ids::NONE,
-    };
-    (RequestState::Complete, ids)
+        Method::StartInputTimers => {}
+    }
 }
 
-fn answer(request: &Request, status: Status, state: RequestState, list: Ids) -> Answer {
+/// COMPLETE, with nothing listed or told.
+fn answer(request: &Request, status: Status) -> Answer {
     Answer {
         id: request.id,
         status: status.0,
-        state,
-        list,
+        state: RequestState::Complete,
+        list: Ids::NONE,
+        told: NOTHING_TOLD,
     }
 }
 
-/// Judgement 6 for Kill-On-Barge-In, which acts in SPEAK only: "`true` or
-/// `false` in any case"; "defaults to true".
-fn kill_on_barge_in(method: Option<Method>, fields: &Fields) -> Result<bool, Status> {
+/// What the fields that act say.
+struct Acting<'a> {
+    /// What a SPEAK or RECOGNIZE asks to hold.
+    held: Held,
+    /// Which a STOP names.
+    list: Option<Cow<'a, [u8]>>,
+    /// What a SET-PARAMS makes.
+    edition: Edition,
+}
+
+/// Judgement 6: in SET-PARAMS and GET-PARAMS "403 [...], then 404".
+fn acting<'a>(
+    channel: &Channel,
+    method: Option<Method>,
+    id: u32,
+    fields: &Fields<'a>,
+) -> Result<Acting<'a>, Status> {
+    if method.is_some_and(Method::is_about_settings) && params::has_foreign(channel, fields) {
+        return Err(Status::UNSUPPORTED_FIELD);
+    }
+    Ok(Acting {
+        held: Held {
+            id,
+            killable: kill_on_barge_in(channel, method, fields)?,
+            threshold: confidence_threshold(channel, method, fields)?,
+        },
+        list: active_request_id_list(method, fields)?,
+        edition: edition(channel, method, fields)?,
+    })
+}
+
+/// Judgement 6 for Kill-On-Barge-In, which acts in SPEAK only: "`true` or `false`
+/// in any case". Without it a SPEAK "takes the setting of the moment"; the
+/// default is true.
+fn kill_on_barge_in(
+    channel: &Channel,
+    method: Option<Method>,
+    fields: &Fields,
+) -> Result<bool, Status> {
     if method != Some(Method::Speak) {
         return Ok(true);
     }
-    match fields.value(Known::KillOnBargeIn) {
-        None => Ok(true),
-        Some(value) if value.eq_ignore_ascii_case(b"true") => Ok(true),
-        Some(value) if value.eq_ignore_ascii_case(b"false") => Ok(false),
-        Some(_) => Err(Status::ILLEGAL_VALUE),
+    if let Some(value) = fields.value(Known::KillOnBargeIn) {
+        return flag(&value).ok_or(Status::ILLEGAL_VALUE);
+    }
+    match channel.setting(Known::KillOnBargeIn) {
+        Some(Value::Flag(flag)) => Ok(flag),
+        _ => Ok(true),
     }
 }
 
-/// Judgement 6 for Confidence-Threshold, which acts in RECOGNIZE only; the
-/// default is 0.
-fn confidence_threshold(method: Option<Method>, fields: &Fields) -> Result<Level, Status> {
-    match fields.value(Known::ConfidenceThreshold) {
-        Some(value) if method == Some(Method::Recognize) => {
-            Level::of_value(&value).ok_or(Status::ILLEGAL_VALUE)
-        }
-        _ => Ok(Level(0)),
+/// Judgement 6 for Confidence-Threshold, which acts in RECOGNIZE only. Without
+/// it a RECOGNIZE "takes the setting of the moment"; the default is 0.
+fn confidence_threshold(
+    channel: &Channel,
+    method: Option<Method>,
+    fields: &Fields,
+) -> Result<Level, Status> {
+    if method != Some(Method::Recognize) {
+        return Ok(Level::ZERO);
+    }
+    if let Some(value) = fields.value(Known::ConfidenceThreshold) {
+        return Level::of_value(&value).ok_or(Status::ILLEGAL_VALUE);
+    }
+    match channel.setting(Known::ConfidenceThreshold) {
+        Some(Value::Level(level)) => Ok(level),
+        _ => Ok(Level::ZERO),
+    }
+}
+
+/// Judgement 6 for the settings that a SET-PARAMS names: "All fields of a
+/// SET-PARAMS take effect or none do".
+fn edition(channel: &Channel, method: Option<Method>, fields: &Fields) -> Result<Edition, Status> {
+    match method {
+        Some(Method::SetParams) => params::edition(channel, fields).ok_or(Status::ILLEGAL_VALUE),
+        _ => Ok(channel.editions.newest()),
     }
 }
 
@@ -227,6 +292,7 @@ fn active_request_id_list<'a>(
 fn is_valid(method: Method, state: State) -> bool {
     match method {
         Method::Speak | Method::Stop | Method::BargeInOccurred | Method::Recognize => true,
+        Method::SetParams | Method::GetParams => true,
         Method::Pause | Method::Resume | Method::Control => state != State::Idle,
         Method::StartInputTimers => state == State::Recognizing,
     }
@@ -254,6 +320,10 @@ fn content(method: Method, fields: &Fields) -> Result<(), Status> {
 
 /// Judgement 11: "200, or 201 if a field was ignored".
 fn success(method: Method, fields: &Fields) -> Status {
+    // What a SET-PARAMS or GET-PARAMS does not take is 403.
+    if method.is_about_settings() {
+        return Status::SUCCESS;
+    }
     if fields.all().iter().any(|field| is_ignored(method, field)) {
         Status::SOME_IGNORED
     } else {
@@ -265,7 +335,8 @@ fn success(method: Method, fields: &Fields) -> Status {
 /// the seven "act nowhere and are never ignored".
 fn is_ignored(method: Method, field: &Field) -> bool {
     match field.known {
-        None => true,
+        // The three are known only where nothing is ignored.
+        None | Some(Known::FetchTimeout | Known::NoInputTimeout | Known::SensitivityLevel) => true,
         Some(Known::ContentType) => !method.wants_content(),
         Some(Known::KillOnBargeIn) => method != Method::Speak,
         Some(Known::ConfidenceThreshold) => method != Method::Recognize,

@@ -1,10 +1,11 @@
-//! The channel as its caller in C keeps it: 64 numbers, at the places that
+//! The channel as its caller in C keeps it: 89 numbers, at the places that
 //! include/klarvesimo.h gives. Any numbers at all may come in.
 
 use crate::calls::Outcome;
 use crate::channel::{Channel, Held, Kind, Name, Queue, State, LONGEST_NAME, MOST_OUTSTANDING};
 use crate::level::Level;
 use crate::refusal::Refusal;
+use crate::settings::{Edition, Editions, Sort, Value, MOST_EDITIONS, MOST_MILLIS, MOST_SETTINGS};
 
 pub const STATE: usize = 0;
 pub const LAST: usize = 1;
@@ -14,7 +15,12 @@ pub const QUEUE: usize = 4;
 /// On a recognizer the second half of the queue's places is for its thresholds.
 pub const THRESHOLDS: usize = QUEUE + Kind::Recognizer.most_outstanding();
 pub const NAME: usize = QUEUE + MOST_OUTSTANDING;
-pub const NUMBERS: usize = NAME + LONGEST_NAME;
+/// How many editions are kept.
+pub const KEPT: usize = NAME + LONGEST_NAME;
+pub const EDITIONS: usize = KEPT + 1;
+/// Each setting has two numbers.
+pub const EDITION_NUMBERS: usize = 2 * MOST_SETTINGS;
+pub const NUMBERS: usize = EDITIONS + MOST_EDITIONS * EDITION_NUMBERS;
 
 #[derive(Clone, Copy, Debug, PartialEq, Eq)]
 pub struct Kept(pub [u64; NUMBERS]);
@@ -24,7 +30,7 @@ pub struct Kept(pub [u64; NUMBERS]);
 pub struct Entry {
     /// Twice the id, and 1 more where it is killable, as a RECOGNIZE always is.
     pub number: u64,
-    /// The bits of a recognizer's threshold; 0 on a synthesizer.
+    /// The millionths of a recognizer's threshold; 0 on a synthesizer.
     pub threshold: u64,
 }
 
@@ -37,7 +43,8 @@ impl Entry {
     }
 
     fn of(held: &Held) -> Entry {
-        Entry::new(held.id.into(), held.killable, held.threshold.0.into())
+        let threshold = held.threshold.millionths();
+        Entry::new(held.id.into(), held.killable, threshold.into())
     }
 
     /// None where a number is outside its range.
@@ -45,13 +52,59 @@ impl Entry {
         Some(Held {
             id: u32::try_from(self.number >> 1).ok()?,
             killable: self.number & 1 == 1,
-            threshold: Level(u32::try_from(self.threshold).ok()?),
+            threshold: Level::of_millionths(self.threshold)?,
         })
     }
 }
 
+/// The sorts of a setting's value.
+pub const UNSET: u64 = 0;
+pub const FLAG: u64 = 1;
+pub const MILLIS: u64 = 2;
+pub const LEVEL: u64 = 3;
+
+/// What is kept of one setting.
+#[derive(Clone, Copy, Debug, PartialEq, Eq)]
+pub struct Pair {
+    pub sort: u64,
+    /// 0 or 1, milliseconds, or millionths; where it is unset it is not looked at.
+    pub value: u64,
+}
+
+impl Pair {
+    pub fn new(sort: u64, value: u64) -> Pair {
+        Pair { sort, value }
+    }
+
+    fn of(value: Option<Value>) -> Pair {
+        match value {
+            None => Pair::new(UNSET, 0),
+            Some(Value::Flag(flag)) => Pair::new(FLAG, flag.into()),
+            Some(Value::Millis(millis)) => Pair::new(MILLIS, millis),
+            Some(Value::Level(level)) => Pair::new(LEVEL, level.millionths().into()),
+        }
+    }
+
+    /// The outer None where reading can't give this to a setting of that sort.
+    fn setting(self, sort: Sort) -> Option<Option<Value>> {
+        match (self.sort, sort) {
+            (UNSET, _) => Some(None),
+            (FLAG, Sort::Flag) if self.value <= 1 => Some(Some(Value::Flag(self.value == 1))),
+            (MILLIS, Sort::Millis) if self.value <= MOST_MILLIS => {
+                Some(Some(Value::Millis(self.value)))
+            }
+            (LEVEL, Sort::Level) => {
+                let level = Level::of_millionths(self.value)?;
+                Some(Some(Value::Level(level)))
+            }
+            _ => None,
+        }
+    }
+}
+
 impl Kept {
-    /// All numbers are written, 0 past the queue's count and the name's size.
+    /// All numbers are written, 0 past the queue's count, the name's size and
+    /// the editions kept.
     pub fn of(channel: &Channel) -> Kept {
         let mut kept = Kept([0; NUMBERS]);
         kept.put_name(channel.name.bytes());
@@ -63,13 +116,18 @@ impl Kept {
         for (place, held) in outstanding.iter().take(most).enumerate() {
             kept.put_entry(channel.kind(), place, Entry::of(held));
         }
+        let editions = channel.editions.kept();
+        kept.0[KEPT] = editions.len() as u64;
+        for (place, edition) in editions.iter().enumerate() {
+            kept.put_edition(place, &edition.0.map(Pair::of));
+        }
         kept
     }
 
     /// The size is that of the name; of its bytes as many as fit are kept.
     pub fn put_name(&mut self, name: &[u8]) {
         self.0[SIZE] = name.len() as u64;
-        for (number, byte) in self.0[NAME..].iter_mut().zip(name) {
+        for (number, byte) in self.0[NAME..KEPT].iter_mut().zip(name) {
             *number = u64::from(*byte);
         }
     }
@@ -78,6 +136,23 @@ impl Kept {
         self.0[QUEUE + place] = entry.number;
         if kind == Kind::Recognizer {
             self.0[THRESHOLDS + place] = entry.threshold;
+        }
+    }
+
+    /// One edition, 0 for the settings that are not given.
+    pub fn put_edition(&mut self, place: usize, pairs: &[Pair]) {
+        let first = EDITIONS + place * EDITION_NUMBERS;
+        for (numbers, pair) in self.0[first..].chunks_exact_mut(2).zip(pairs) {
+            numbers.copy_from_slice(&[pair.sort, pair.value]);
+        }
+    }
+
+    /// All the editions and their count, 0 for those that are not given.
+    pub fn put_editions(&mut self, editions: &[Vec<Pair>], count: u64) {
+        self.0[KEPT..].fill(0);
+        self.0[KEPT] = count;
+        for (place, pairs) in editions.iter().enumerate() {
+            self.put_edition(place, pairs);
         }
     }
 
@@ -97,7 +172,7 @@ impl Kept {
     }
 
     /// The channel that the numbers show, sound or not; none where a number is
-    /// outside its range. Those past the count and the size are not looked at.
+    /// outside its range. Those past counts and size are not looked at.
     pub fn channel(&self) -> Option<Channel> {
         let name = self.name()?;
         Some(Channel {
@@ -107,6 +182,7 @@ impl Kept {
                 number => Some(u32::try_from(number - 1).ok()?),
             },
             queue: self.queue(Kind::of_name(name.bytes()))?,
+            editions: self.editions_kept(Kind::of_name(name.bytes()))?,
             name,
         })
     }
@@ -126,6 +202,28 @@ impl Kept {
     pub fn entries(&self, count: usize) -> Vec<Entry> {
         let kind = self.kind();
         (0..count).map(|place| self.entry(kind, place)).collect()
+    }
+
+    /// How many editions are shown: as many as the count says and there are.
+    pub fn shown_editions(&self) -> usize {
+        self.0[KEPT].min(MOST_EDITIONS as u64) as usize
+    }
+
+    /// The first editions; at most as many as there are places.
+    pub fn editions(&self, count: usize) -> Vec<Vec<Pair>> {
+        let kind = self.kind();
+        (0..count).map(|place| self.edition(kind, place)).collect()
+    }
+
+    /// A pair for each setting of the kind.
+    fn edition(&self, kind: Kind, place: usize) -> Vec<Pair> {
+        let settings = 0..kind.settings().len();
+        settings.map(|setting| self.pair(place, setting)).collect()
+    }
+
+    fn pair(&self, edition: usize, setting: usize) -> Pair {
+        let first = EDITIONS + edition * EDITION_NUMBERS + 2 * setting;
+        Pair::new(self.0[first], self.0[first + 1])
     }
 
     /// The name as it is shown: the last eight bits of each number.
@@ -149,6 +247,20 @@ impl Kept {
             queue.add(self.entry(kind, place).held()?);
         }
         Some(queue)
+    }
+
+    fn editions_kept(&self, kind: Kind) -> Option<Editions> {
+        if self.0[KEPT] > MOST_EDITIONS as u64 {
+            return None;
+        }
+        let mut editions = [Edition::UNSET; MOST_EDITIONS];
+        let editions = &mut editions[..self.0[KEPT] as usize];
+        for (place, edition) in editions.iter_mut().enumerate() {
+            for (at, setting) in kind.settings().iter().enumerate() {
+                edition.0[at] = self.pair(place, at).setting(setting.sort)?;
+            }
+        }
+        Editions::of(editions)
     }
 
     fn name(&self) -> Option<Name> {
@@ -178,6 +290,10 @@ impl Kept {
 
     pub fn report(&mut self, cause: u32, score: f32, output: &mut [u8]) -> Outcome {
         self.call(|channel| channel.report(cause, score, output))
+    }
+
+    pub fn back(&mut self, number: u32) -> Outcome {
+        self.call(|channel| channel.back(number))
     }
 
     /// 21 before all; a refused call leaves every number as it was.

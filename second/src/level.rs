@@ -1,16 +1,34 @@
-//! Levels: a Confidence-Threshold as it is written, kept and compared.
+//! Levels: a Confidence-Threshold or Sensitivity-Level as it is written, kept and compared.
 
 use crate::octets::decimal;
 
 /// "1 to 6 digits" after the point.
 const MOST_PLACES: usize = 6;
+/// The highest level, in millionths.
+pub const ONE: u32 = 1_000_000;
 
-/// "Kept as a single-precision number": its 32 bits, since a caller in C can
-/// hand in any, those of no number too, and gets them back.
+/// A level in millionths, at most 1,000,000: no two levels are the same single,
+/// so these say which single-precision number is kept.
 #[derive(Clone, Copy, Debug, Default, PartialEq, Eq)]
-pub struct Level(pub u32);
+pub struct Level(u32);
 
 impl Level {
+    pub const ZERO: Level = Level(0);
+
+    /// None above one.
+    pub fn of_millionths(millionths: u64) -> Option<Level> {
+        let millionths = u32::try_from(millionths).ok()?;
+        (millionths <= ONE).then_some(Level(millionths))
+    }
+
+    /// The level whose single has these bits; none where no level's has.
+    pub fn of_bits(bits: u32) -> Option<Level> {
+        // A single is off its level by far less than half a millionth. What is
+        // no number gives 0 here, whose bits are others.
+        let nearest = (f64::from(f32::from_bits(bits)) * f64::from(ONE)).round();
+        Level::of_millionths(nearest as u64).filter(|level| level.bits() == bits)
+    }
+
     /// "`0` or `1`, optionally a point and 1 to 6 digits, at most one."
     pub fn of_value(value: &[u8]) -> Option<Level> {
         let (whole, places) = match value {
@@ -25,19 +43,27 @@ impl Level {
             [] => 0,
             _ => decimal(places, MOST_PLACES)?,
         };
-        let power = 10u32.pow(places.len() as u32);
-        let digits = u32::from(whole - b'0') * power + part as u32;
-        (digits <= power).then(|| Level::divided(digits, power))
+        let missing = (MOST_PLACES - places.len()) as u32;
+        Level::of_millionths(u64::from(whole - b'0') * u64::from(ONE) + part * 10u64.pow(missing))
     }
 
-    /// "The digits as a whole number divided once by the power of ten": both
-    /// are at most 1,000,000, so exact, and only the division rounds.
-    fn divided(digits: u32, power: u32) -> Level {
-        Level((digits as f32 / power as f32).to_bits())
+    pub fn millionths(self) -> u32 {
+        self.0
     }
 
-    /// Whether the score is greater; where these are bits of no number, it is not.
+    /// "The digits as a whole number divided once by the power of ten." Both
+    /// are at most 1,000,000, so exact, and only the division rounds: digits
+    /// with zeros behind them give the same quotient.
+    fn single(self) -> f32 {
+        self.0 as f32 / ONE as f32
+    }
+
+    pub fn bits(self) -> u32 {
+        self.single().to_bits()
+    }
+
+    /// Whether the score is greater.
     pub fn is_below(self, score: f32) -> bool {
-        f32::from_bits(self.0) < score
+        self.single() < score
     }
 }

@@ -20,10 +20,14 @@ pub struct Message<'a> {
 pub fn read(lent: &[u8]) -> Result<Message<'_>, Refusal> {
     let frame = frame(lent)?;
     let (start, rest) = start(&frame).ok_or(Refusal::StartLine)?;
+    let method = match start {
+        StartLine::Request { name, .. } => Some(name),
+        _ => None,
+    };
     Ok(Message {
         version: frame.version,
         start,
-        fields: fields::read(rest),
+        fields: fields::read(rest, method),
         length: frame.length(),
     })
 }

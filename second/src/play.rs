@@ -5,11 +5,13 @@ use std::io::{BufRead, Write};
 use crate::calls::Outcome;
 use crate::fields::Fields;
 use crate::framing::frame;
-use crate::kept::Kept;
+use crate::kept::{Kept, Pair};
 use crate::ledger::{entry_of_message, entry_of_report, Entry, Ledger, Violation};
 use crate::message::{read, Message};
 use crate::refusal::Refusal;
-use crate::script::{each_command, put_channel, put_hex, Command, Trouble, MOST_ROOM};
+use crate::script::{
+    each_command, put_channel, put_hex, put_settings, Command, Trouble, Wrong, MOST_ROOM,
+};
 use crate::start_line::StartLine;
 use crate::whose::whose;
 use crate::writing::{cause_word, Outgoing};
@@ -28,6 +30,13 @@ pub struct Call<'a> {
     pub outcome: Outcome,
     pub written: &'a [u8],
     pub entry: Result<Entry, Violation>,
+}
+
+impl Call<'_> {
+    /// The ledger's word about it.
+    pub fn balanced(self) -> Result<(), Wrong> {
+        self.entry.map(|_| ()).map_err(Wrong::Ledger)
+    }
 }
 
 impl Board {
@@ -58,6 +67,18 @@ impl Board {
         self.checked = false;
     }
 
+    /// The editions as given, which must have as many values each as the kind has settings.
+    pub fn set_settings(&mut self, editions: &[Vec<Pair>], count: u64) -> Result<(), Wrong> {
+        let most = self.channel.kind().settings().len();
+        if editions.iter().any(|values| values.len() != most) {
+            let wrong = format!("an edition that is not of {most} values");
+            return Err(Wrong::Word(wrong));
+        }
+        self.channel.put_editions(editions, count);
+        self.checked = false;
+        Ok(())
+    }
+
     pub fn message(&mut self, room: usize, input: &[u8]) -> Call<'_> {
         let outcome = self.channel.handle(input, &mut self.output[..room]);
         let entry = entry_of_message(input, outcome.number, &self.output[..outcome.written]);
@@ -70,6 +91,12 @@ impl Board {
         let outcome = self.channel.report(cause, score, &mut self.output[..room]);
         let entry = entry_of_report(outcome.number, &self.output[..outcome.written]);
         self.entered(outcome, entry)
+    }
+
+    /// Going back to an edition, which enters nothing into the ledger.
+    pub fn back(&mut self, number: u32) -> Call<'_> {
+        let outcome = self.channel.back(number);
+        self.entered(outcome, Ok(Entry::Nothing))
     }
 
     /// Writes one message outside any channel: its bytes, or the number of the refusal.
@@ -116,30 +143,22 @@ pub fn play(script: &mut dyn BufRead, out: &mut dyn Write) -> Result<(), Trouble
     let mut text = Vec::new();
     each_command(script, |line, command| {
         text.clear();
-        let entry = perform(&mut board, command, &mut text);
+        let performed = perform(&mut board, command, &mut text);
         out.write_all(&text).map_err(Trouble::Output)?;
-        entry.map_err(|violation| Trouble::Ledger { line, violation })
+        performed.map_err(|wrong| wrong.at(line))
     })
 }
 
 /// Runs one command and puts the lines it writes.
-fn perform(board: &mut Board, command: Command, text: &mut Vec<u8>) -> Result<(), Violation> {
-    let mut kept = Ok(());
+fn perform(board: &mut Board, command: Command, text: &mut Vec<u8>) -> Result<(), Wrong> {
     match command {
         Command::Frame(input) => put_framed(text, &input),
         Command::Read(input) => put_read(text, &input),
         Command::Whose(input) => put_whose(text, &input),
         Command::Open(name) => put(text, &format!("open {}\n", board.open(&name))),
-        Command::Message { room, input } => {
-            let call = board.message(room, &input);
-            let (number, consumed) = (call.outcome.number, call.outcome.consumed);
-            put(text, &format!("message {number} {consumed} "));
-            kept = put_call(text, call);
-        }
+        Command::Message { room, input } => return put_message(text, board.message(room, &input)),
         Command::Report { cause, room, score } => {
-            let call = board.report(cause, score, room);
-            put(text, &format!("report {} ", call.outcome.number));
-            kept = put_call(text, call);
+            return put_report(text, board.report(cause, score, room));
         }
         Command::Respond { answer, name, room } => {
             let message = Outgoing::Answer(*answer);
@@ -156,8 +175,29 @@ fn perform(board: &mut Board, command: Command, text: &mut Vec<u8>) -> Result<()
             put_channel(text, &board.channel);
             text.push(b'\n');
         }
+        Command::Back(number) => {
+            let call = board.back(number);
+            put(text, &format!("back {}\n", call.outcome.number));
+            return call.balanced();
+        }
+        Command::Settings => {
+            put_settings(text, &board.channel);
+            text.push(b'\n');
+        }
+        Command::SetSettings { editions, count } => return board.set_settings(&editions, count),
     }
-    kept
+    Ok(())
+}
+
+fn put_message(text: &mut Vec<u8>, call: Call) -> Result<(), Wrong> {
+    let (number, consumed) = (call.outcome.number, call.outcome.consumed);
+    put(text, &format!("message {number} {consumed} "));
+    put_call(text, call)
+}
+
+fn put_report(text: &mut Vec<u8>, call: Call) -> Result<(), Wrong> {
+    put(text, &format!("report {} ", call.outcome.number));
+    put_call(text, call)
 }
 
 fn put(text: &mut Vec<u8>, words: &str) {
@@ -165,10 +205,10 @@ fn put(text: &mut Vec<u8>, words: &str) {
 }
 
 /// The bytes that a call wrote; the ledger's word about it.
-fn put_call(text: &mut Vec<u8>, call: Call) -> Result<(), Violation> {
+fn put_call(text: &mut Vec<u8>, call: Call) -> Result<(), Wrong> {
     put_hex(text, call.written);
     text.push(b'\n');
-    call.entry.map(|_| ())
+    call.balanced()
 }
 
 fn put_written(text: &mut Vec<u8>, command: &str, written: Result<&[u8], Refusal>) {

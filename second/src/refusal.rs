@@ -13,11 +13,12 @@ pub enum Refusal {
     NoSuchCause,
     ChannelName,
     NoScore,
+    NotKept,
     NotSound,
 }
 
 impl Refusal {
-    pub const ALL: [Refusal; 12] = [
+    pub const ALL: [Refusal; 13] = [
         Refusal::MoreNeeded,
         Refusal::NoMessage,
         Refusal::TooLong,
@@ -29,6 +30,7 @@ impl Refusal {
         Refusal::NoSuchCause,
         Refusal::ChannelName,
         Refusal::NoScore,
+        Refusal::NotKept,
         Refusal::NotSound,
     ];
 
@@ -45,6 +47,7 @@ impl Refusal {
             Refusal::NoSuchCause => 9,
             Refusal::ChannelName => 10,
             Refusal::NoScore => 11,
+            Refusal::NotKept => 12,
             Refusal::NotSound => 21,
         }
     }
@@ -63,6 +66,7 @@ impl Refusal {
             Refusal::NoSuchCause => "engine cause above 7, on a recognizer above 15",
             Refusal::ChannelName => "channel name malformed at opening",
             Refusal::NoScore => "engine score that is no number",
+            Refusal::NotKept => "no edition of that number is kept",
             Refusal::NotSound => "the channel handed in is not sound",
         }
     }

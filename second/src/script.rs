@@ -1,12 +1,16 @@
 //! The script language: one command a line.
 
+mod editions;
+
 use std::io::{self, BufRead};
 
-use crate::channel::{Kind, State, MOST_OUTSTANDING};
-use crate::kept::{self, Entry, Kept, NUMBERS};
+use crate::channel::{Channel, Kind, State, MOST_OUTSTANDING};
+use crate::kept::{self, Entry, Kept, Pair, NUMBERS};
 use crate::ledger::Violation;
 use crate::start_line::RequestState;
-use crate::writing::{Answer, Event, Ids};
+use crate::writing::{Answer, Event, Ids, NOTHING_TOLD};
+use editions::{editions_of, level_word};
+pub use editions::{editions_word, level_number, put_settings};
 
 pub const MOST_BYTES: usize = 1_000_000;
 pub const MOST_ROOM: u32 = 1_000_000;
@@ -48,6 +52,29 @@ pub enum Command {
     },
     Numbers,
     Show,
+    Back(u32),
+    Settings,
+    SetSettings {
+        editions: Vec<Vec<Pair>>,
+        count: u64,
+    },
+}
+
+/// Why a command is the last one that is performed.
+#[derive(Debug)]
+pub enum Wrong {
+    /// A word that does not fit the channel as it is.
+    Word(String),
+    Ledger(Violation),
+}
+
+impl Wrong {
+    pub fn at(self, line: usize) -> Trouble {
+        match self {
+            Wrong::Word(wrong) => Trouble::Unreadable { line, wrong },
+            Wrong::Ledger(violation) => Trouble::Ledger { line, violation },
+        }
+    }
 }
 
 /// Why a script was not played to its end.
@@ -111,18 +138,19 @@ pub fn command(line: &[u8]) -> Result<Option<Command>, String> {
         [b"channel", name, state, last, queue, count] => {
             channel(name, state, last, queue, Some(count))?
         }
-        [b"number", place, value] => Command::Number {
-            place: number("place", place, NUMBERS as u64 - 1)? as usize,
-            value: number("value", value, u64::MAX)?,
-        },
+        [b"number", place, value] => one_number(place, value)?,
         [b"numbers"] => Command::Numbers,
         [b"show"] => Command::Show,
+        [b"back", number] => Command::Back(number32("number", number)?),
+        [b"settings"] => Command::Settings,
+        [b"settings", editions] => settings(editions, None)?,
+        [b"settings", editions, count] => settings(editions, Some(count))?,
         _ => return Err(no_command(&words)),
     };
     Ok(Some(command))
 }
 
-const COMMANDS: [&[u8]; 12] = [
+const COMMANDS: [&[u8]; 14] = [
     b"frame",
     b"read",
     b"whose",
@@ -135,6 +163,8 @@ const COMMANDS: [&[u8]; 12] = [
     b"number",
     b"numbers",
     b"show",
+    b"back",
+    b"settings",
 ];
 
 fn no_command(words: &[&[u8]]) -> String {
@@ -257,7 +287,8 @@ fn channel(
     queue: &[u8],
     count: Option<&[u8]>,
 ) -> Result<Command, String> {
-    let mut kept = Kept([0; NUMBERS]);
+    // The rest is fresh.
+    let mut kept = Kept::of(&Channel::UNOPENED);
     kept.put_name(&hex(name)?);
     let kind = kept.kind();
     let queue = queue_of(kind, queue)?;
@@ -266,14 +297,32 @@ fn channel(
         b"-" => 0,
         word => number("last id", word, u64::MAX - 1)? + 1,
     };
-    kept.0[kept::COUNT] = match count {
-        None => queue.len() as u64,
-        Some(word) => number("count", word, u64::MAX)?,
-    };
+    kept.0[kept::COUNT] = count_of(count, queue.len())?;
     for (place, entry) in queue.into_iter().enumerate() {
         kept.put_entry(kind, place, entry);
     }
     Ok(Command::Channel(Box::new(kept)))
+}
+
+fn one_number(place: &[u8], value: &[u8]) -> Result<Command, String> {
+    Ok(Command::Number {
+        place: number("place", place, NUMBERS as u64 - 1)? as usize,
+        value: number("value", value, u64::MAX)?,
+    })
+}
+
+/// The count given, or that of what is listed.
+fn count_of(word: Option<&[u8]>, listed: usize) -> Result<u64, String> {
+    match word {
+        None => Ok(listed as u64),
+        Some(word) => number("count", word, u64::MAX),
+    }
+}
+
+fn settings(editions: &[u8], count: Option<&[u8]>) -> Result<Command, String> {
+    let editions = editions_of(editions)?;
+    let count = count_of(count, editions.len())?;
+    Ok(Command::SetSettings { editions, count })
 }
 
 fn state_of(word: &[u8]) -> Result<u64, String> {
@@ -297,6 +346,7 @@ fn respond(
         status: number("status", status, 999)? as u16,
         state: request_state(state)?,
         list: ids_of(ids)?,
+        told: NOTHING_TOLD,
     };
     Ok(Command::Respond {
         answer: Box::new(answer),
@@ -373,7 +423,8 @@ fn recognize_entry(part: &[u8]) -> Result<Entry, String> {
         return Err("a queue entry without a threshold".to_string());
     };
     let id = number("id", id, MOST_ID)?;
-    Ok(Entry::new(id, true, bits("threshold", threshold)?.into()))
+    let threshold = level_number(bits("threshold", threshold)?);
+    Ok(Entry::new(id, true, threshold))
 }
 
 /// `channel HEX STATE LAST QUEUE`, and COUNT where it is above the entries
@@ -409,11 +460,10 @@ pub fn put_words(text: &mut Vec<u8>, kept: &Kept, name: &[u8], queue: &[Entry]) 
     text.extend_from_slice(entries.join(",").as_bytes());
 }
 
-/// Of a threshold the last 32 bits are shown.
 fn entry_word(kind: Kind, entry: &Entry) -> String {
     let id = entry.number >> 1;
     match kind {
-        Kind::Recognizer => format!("{id}:{:08x}", entry.threshold as u32),
+        Kind::Recognizer => format!("{id}:{}", level_word(entry.threshold)),
         Kind::Synthesizer if entry.number & 1 == 1 => format!("{id}+"),
         Kind::Synthesizer => format!("{id}-"),
     }

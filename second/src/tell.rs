@@ -7,12 +7,15 @@ use std::io::{BufRead, Write};
 
 use crate::calls::Outcome;
 use crate::channel::Kind;
+use crate::fields::Known;
 use crate::framing::frame;
-use crate::ledger::{is_accepted_method, messages, request_of, Entry, Violation};
+use crate::kept::{self, Kept, Pair};
+use crate::ledger::{is_accepted_method, messages, request_of, Entry};
+use crate::level::{self, Level};
 use crate::message::{read, Message};
 use crate::play::{Board, Call};
 use crate::refusal::Refusal;
-use crate::script::{each_command, put_channel, Command, Trouble};
+use crate::script::{each_command, put_channel, Command, Trouble, Wrong};
 use crate::start_line::StartLine;
 use crate::whose::whose;
 use crate::writing::{cause_word, Outgoing};
@@ -50,9 +53,9 @@ pub fn tell(script: &mut dyn BufRead, out: &mut dyn Write) -> Result<(), Trouble
     teller.begin("before any opening".to_string());
     each_command(script, |line, command| {
         let mut text = String::new();
-        let kept = teller.perform(command, &mut text);
+        let performed = teller.perform(command, &mut text);
         out.write_all(text.as_bytes()).map_err(Trouble::Output)?;
-        kept.map_err(|violation| Trouble::Ledger { line, violation })
+        performed.map_err(|wrong| wrong.at(line))
     })?;
     let text = teller.prompts();
     out.write_all(text.as_bytes()).map_err(Trouble::Output)
@@ -64,7 +67,7 @@ impl Teller {
         self.chapters.push(Chapter { title, prompts });
     }
 
-    fn perform(&mut self, command: Command, text: &mut String) -> Result<(), Violation> {
+    fn perform(&mut self, command: Command, text: &mut String) -> Result<(), Wrong> {
         match command {
             Command::Frame(input) => tell_framed(text, &input),
             Command::Read(input) => tell_read(text, &input),
@@ -82,25 +85,30 @@ impl Teller {
             }
             Command::Channel(channel) => {
                 self.board.set(*channel);
-                self.set_by_the_script(text);
+                self.set_by_the_script(text, channel_words(&self.board.channel));
             }
             Command::Number { place, value } => {
                 self.board.set_number(place, value);
-                self.set_by_the_script(text);
+                self.set_by_the_script(text, channel_words(&self.board.channel));
             }
-            Command::Numbers => {
-                text.push_str(&format!("== numbers {}\n\n", self.board.channel.words()));
-            }
-            Command::Show => {
-                text.push_str(&format!("== now: {}\n\n", channel_words(&self.board)));
+            Command::Numbers => say(text, &format!("numbers {}", self.board.channel.words())),
+            Command::Show => say(
+                text,
+                &format!("now: {}", channel_words(&self.board.channel)),
+            ),
+            Command::Back(number) => return self.back(text, number),
+            Command::Settings => say(text, &settings_words(&self.board.channel)),
+            Command::SetSettings { editions, count } => {
+                self.board.set_settings(&editions, count)?;
+                self.set_by_the_script(text, settings_words(&self.board.channel));
             }
         }
         Ok(())
     }
 
-    fn set_by_the_script(&mut self, text: &mut String) {
-        let title = format!("set by the script: {}", channel_words(&self.board));
-        text.push_str(&format!("== {title}\n\n"));
+    fn set_by_the_script(&mut self, text: &mut String, what: String) {
+        let title = format!("set by the script: {what}");
+        say(text, &title);
         self.begin(title);
     }
 
@@ -109,14 +117,14 @@ impl Teller {
             Ok(bytes) => readable(bytes),
             Err(refusal) => format!("refused, {}", refusal.meaning()),
         };
-        text.push_str(&format!("== written: {words}\n\n"));
+        say(text, &format!("written: {words}"));
     }
 
     fn open(&mut self, text: &mut String, name: &[u8]) {
         let number = self.board.open(name);
         let name = readable(name);
         if number == 0 {
-            text.push_str(&format!("== channel {name} opened\n\n"));
+            say(text, &format!("channel {name} opened"));
             self.begin(format!("channel {name}"));
         } else {
             text.push_str(&format!("== channel `{name}` not opened\n"));
@@ -125,7 +133,7 @@ impl Teller {
         }
     }
 
-    fn message(&mut self, text: &mut String, room: usize, input: &[u8]) -> Result<(), Violation> {
+    fn message(&mut self, text: &mut String, room: usize, input: &[u8]) -> Result<(), Wrong> {
         let length = frame(input).map_or(input.len(), |frame| frame.length());
         text.push_str(&arrow("->", &input[..length]));
         if length < input.len() {
@@ -135,10 +143,38 @@ impl Teller {
         let call = self.board.message(room, input);
         tell_answer(text, &call, room);
         let chapter = self.chapters.last_mut().expect("one since the beginning");
+        let mut has_set = false;
         if let Some((method, id)) = request_of(input) {
             chapter.note(method, id, &call);
+            has_set = method == b"SET-PARAMS" && is_success(&call);
+            if method == b"GET-PARAMS" && is_success(&call) {
+                say(text, &format!("told: {}", told_words(&call)));
+            }
         }
-        call.entry.map(|_| ())
+        call.balanced()?;
+        if has_set {
+            self.settings_now(text);
+        }
+        Ok(())
+    }
+
+    fn back(&mut self, text: &mut String, number: u32) -> Result<(), Wrong> {
+        text.push_str(&format!("** going back to edition {number}\n"));
+        let call = self.board.back(number);
+        let number = call.outcome.number;
+        call.balanced()?;
+        match number {
+            0 => self.settings_now(text),
+            _ => text.push_str(&refused(number)),
+        }
+        Ok(())
+    }
+
+    /// The newest edition after a call that made it.
+    fn settings_now(&self, text: &mut String) {
+        let channel = &self.board.channel;
+        let words = edition_words(channel.kind(), &channel.editions(1)[0]);
+        say(text, &format!("settings now: {words}"));
     }
 
     fn report(
@@ -147,7 +183,7 @@ impl Teller {
         cause: u32,
         score: u32,
         room: usize,
-    ) -> Result<(), Violation> {
+    ) -> Result<(), Wrong> {
         let words = report_words(self.board.channel.kind(), cause, f32::from_bits(score));
         text.push_str(&format!("** the engine reports {words}\n"));
         let call = self.board.report(cause, score, room);
@@ -158,7 +194,7 @@ impl Teller {
                 .flatten()
                 .for_each(|event| chapter.note_event(&event));
         }
-        call.entry.map(|_| ())
+        call.balanced()
     }
 
     fn prompts(&self) -> String {
@@ -232,6 +268,11 @@ impl Became {
     }
 }
 
+/// A line of its own, and an empty one.
+fn say(text: &mut String, words: &str) {
+    text.push_str(&format!("== {words}\n\n"));
+}
+
 /// What the engine reports; its score only where it is looked at.
 fn report_words(kind: Kind, cause: u32, score: f32) -> String {
     let word = cause_word(kind, cause).unwrap_or("no such cause");
@@ -247,9 +288,84 @@ fn why_not(call: &Call) -> String {
     if call.outcome.number != 0 {
         return format!("refused {}", call.outcome.number);
     }
+    status_written(call).map_or("answered with something else".to_string(), |status| {
+        status.to_string()
+    })
+}
+
+/// The status of the answer; none where there is no answer.
+fn status_written(call: &Call) -> Option<u16> {
     match read(call.written).map(|message| message.start) {
-        Ok(StartLine::Response { status, .. }) => format!("{status}"),
-        _ => "answered with something else".to_string(),
+        Ok(StartLine::Response { status, .. }) => Some(status),
+        _ => None,
+    }
+}
+
+fn is_success(call: &Call) -> bool {
+    matches!(status_written(call), Some(200 | 201))
+}
+
+/// The settings that the answer tells.
+fn told_words(call: &Call) -> String {
+    let message = read(call.written).ok();
+    let fields = message.as_ref().and_then(|message| message.fields.as_ref());
+    let fields = fields.map_or(&[][..], |fields| fields.all());
+    let told = fields
+        .iter()
+        .filter(|field| field.known != Some(Known::ChannelIdentifier));
+    let words = told.map(|field| {
+        let unit = match field.name.ends_with(b"-Timeout") && !field.raw.is_empty() {
+            true => " ms",
+            false => "",
+        };
+        setting_words(field.name, &(readable(field.raw) + unit))
+    });
+    words.collect::<Vec<String>>().join(", ")
+}
+
+/// As `Fetch-Timeout 2500 ms`, or `unset` where there is no value.
+fn setting_words(name: &[u8], value: &str) -> String {
+    match value {
+        "" => format!("{} unset", readable(name)),
+        value => format!("{} {value}", readable(name)),
+    }
+}
+
+/// The editions kept, by their numbers.
+fn settings_words(channel: &Kept) -> String {
+    let (kind, count) = (channel.kind(), channel.0[kept::KEPT]);
+    let editions = channel.editions(channel.shown_editions());
+    let mut words: Vec<String> = (1..)
+        .zip(&editions)
+        .map(|(number, pairs)| format!("{number}. {}", edition_words(kind, pairs)))
+        .collect();
+    if words.is_empty() || count > editions.len() as u64 {
+        words.push(format!("count {count}"));
+    }
+    format!("settings: {}", words.join("; "))
+}
+
+fn edition_words(kind: Kind, pairs: &[Pair]) -> String {
+    let settings = kind.settings().iter().zip(pairs);
+    let words =
+        settings.map(|(setting, pair)| setting_words(setting.field.spelling(), &value_text(pair)));
+    words.collect::<Vec<String>>().join(", ")
+}
+
+/// What is kept of a setting, right or wrong; empty where it is unset.
+fn value_text(pair: &Pair) -> String {
+    match pair.sort {
+        kept::UNSET => String::new(),
+        kept::FLAG if pair.value <= 1 => (pair.value == 1).to_string(),
+        kept::MILLIS => format!("{} ms", pair.value),
+        kept::LEVEL => match Level::of_millionths(pair.value) {
+            Some(level) => format!(
+                "{:.6}",
+                f64::from(level.millionths()) / f64::from(level::ONE)
+            ),
+            None => format!("(no level: {})", pair.value),
+        },
+        sort => format!("(sort {sort}: {})", pair.value),
     }
 }
 
@@ -323,14 +439,14 @@ fn tell_whose(text: &mut String, input: &[u8]) {
     }
 }
 
-fn channel_words(board: &Board) -> String {
+fn channel_words(channel: &Kept) -> String {
     let mut text = Vec::new();
-    put_channel(&mut text, &board.channel);
+    put_channel(&mut text, channel);
     let hex = String::from_utf8_lossy(&text).into_owned();
     let parts: Vec<&str> = hex.split(' ').collect();
     format!(
         "channel `{}` {}, last id {}, queue {}",
-        readable(&board.channel.name_bytes()),
+        readable(&channel.name_bytes()),
         parts[2],
         parts[3],
         parts[4..].join(" count ")

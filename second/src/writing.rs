@@ -3,6 +3,9 @@
 use std::iter;
 
 use crate::channel::{Kind, MOST_OUTSTANDING};
+use crate::fields::Known;
+use crate::level::{self, Level};
+use crate::settings::{Value, MOST_SETTINGS};
 use crate::start_line::RequestState;
 
 /// The ids of an answer's list, in queue order; empty where there is no list.
@@ -28,6 +31,15 @@ impl Ids {
     }
 }
 
+/// One setting as an answer tells it; no value where it is unset.
+#[derive(Clone, Copy, Debug, PartialEq, Eq)]
+pub struct Told {
+    pub field: Known,
+    pub value: Option<Value>,
+}
+
+pub const NOTHING_TOLD: [Option<Told>; MOST_SETTINGS] = [None; MOST_SETTINGS];
+
 /// A response to one request.
 #[derive(Clone, Copy, Debug, PartialEq, Eq)]
 pub struct Answer {
@@ -36,6 +48,8 @@ pub struct Answer {
     pub state: RequestState,
     /// No list field where it is empty.
     pub list: Ids,
+    /// What a GET-PARAMS is told, in order.
+    pub told: [Option<Told>; MOST_SETTINGS],
 }
 
 /// A SPEAK-COMPLETE or RECOGNITION-COMPLETE event, always COMPLETE, with a
@@ -197,7 +211,14 @@ impl Outgoing {
         sink.put(name);
         sink.put(b"\r\n");
         match self {
-            Outgoing::Answer(answer) => put_list(answer.list.all(), sink),
+            Outgoing::Answer(answer) => {
+                put_list(answer.list.all(), sink);
+                answer
+                    .told
+                    .iter()
+                    .flatten()
+                    .for_each(|told| put_told(told, sink));
+            }
             Outgoing::Event(event) => put_cause(event, sink),
         }
         sink.put(b"\r\n");
@@ -236,6 +257,28 @@ fn put_list(ids: &[u32], sink: &mut impl Sink) {
         sink.number(u64::from(*id), 1);
     }
     sink.put(b"\r\n");
+}
+
+/// "`true` or `false`, numbers without leading zeros, levels with a point and six
+/// digits from their kept millionths, empty if unset."
+fn put_told(told: &Told, sink: &mut impl Sink) {
+    sink.put(told.field.spelling());
+    sink.put(b":");
+    match told.value {
+        None => {}
+        Some(Value::Flag(true)) => sink.put(b"true"),
+        Some(Value::Flag(false)) => sink.put(b"false"),
+        Some(Value::Millis(millis)) => sink.number(millis, 1),
+        Some(Value::Level(level)) => put_level(level, sink),
+    }
+    sink.put(b"\r\n");
+}
+
+fn put_level(level: Level, sink: &mut impl Sink) {
+    let millionths = level.millionths();
+    sink.number((millionths / level::ONE).into(), 1);
+    sink.put(b".");
+    sink.number((millionths % level::ONE).into(), 6);
 }
 
 fn put_cause(event: &Event, sink: &mut impl Sink) {

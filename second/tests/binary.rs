@@ -102,9 +102,29 @@ fn the_lines_of_each_command() {
         ("numbers".to_string(), {
             let rest = " 0".repeat(13);
             let name = " 0".repeat(42);
-            format!("numbers 2 10 2 2 18 8 11{rest} 97 353{name}\n")
+            let editions = " 0".repeat(24);
+            format!("numbers 2 10 2 2 18 8 11{rest} 97 353{name} 1{editions}\n")
         }),
         ("show".to_string(), "channel 6161 paused 9 9-,4-\n".to_string()),
+        ("back 1".to_string(), "back 21\n".to_string()),
+        (format!("open {name}"), "open 0\n".to_string()),
+        ("settings".to_string(), "settings -/-\n".to_string()),
+        ("back 0".to_string(), "back 12\n".to_string()),
+        ("back 2".to_string(), "back 12\n".to_string()),
+        ("back 1".to_string(), "back 0\n".to_string()),
+        ("settings".to_string(), "settings -/-,-/-\n".to_string()),
+        ("settings true/250,:3f000000/false".to_string(), String::new()),
+        ("settings".to_string(), "settings true/250,:3f000000/false\n".to_string()),
+        ("back 4294967295".to_string(), "back 21\n".to_string()),
+        ("settings - 5".to_string(), String::new()),
+        ("settings".to_string(), "settings -/-,-/-,-/-,-/- 5\n".to_string()),
+        ("settings -".to_string(), String::new()),
+        ("settings".to_string(), "settings -\n".to_string()),
+        ("channel 61407370656563687265636f67 idle - -".to_string(), String::new()),
+        ("settings".to_string(), "settings -/-/-\n".to_string()),
+        ("settings 5000/:3f000000/-,-/-/-".to_string(), String::new()),
+        ("back 2".to_string(), "back 0\n".to_string()),
+        ("settings".to_string(), "settings -/-/-,5000/:3f000000/-,-/-/-\n".to_string()),
     ];
     let script: String = rows.iter().map(|(line, _)| format!("{line}\n")).collect();
     let expected: String = rows.iter().map(|(_, lines)| lines.as_str()).collect();
@@ -195,11 +215,35 @@ const UNREADABLE: &[&str] = &[
     "channel 61407370656563687265636f67 recognizing 1 1:3f000000+",
     "channel 61407370656563687265636f67 recognizing 1 9223372036854775808:3f000000",
     "number 0",
-    "number 64 0",
+    "number 89 0",
     "number 0 -",
     "number 0 18446744073709551616",
     "number 0 1 2",
     "numbers 0",
+    "back",
+    "back -",
+    "back 4294967296",
+    "back 1 1",
+    "settings true/250 1 1",
+    "settings true/250 -",
+    "settings true/250 18446744073709551616",
+    "settings true/250,",
+    "settings ,true/250",
+    "settings true/",
+    "settings /250",
+    "settings True/250",
+    "settings yes/250",
+    "settings -1/250",
+    "settings true/18446744073709551616",
+    "settings true/:3f00000",
+    "settings true/:3F000000",
+    "settings true/:",
+    "settings true/3f000000",
+    "settings -/-,-/-,-/-,-/-,-/-",
+    // As many values as the kind has settings, and the channel is a synthesizer's.
+    "settings true",
+    "settings true/250/-",
+    "settings -/-,-/-/-",
 ];
 
 #[test]
@@ -254,7 +298,10 @@ fn the_ends_of_the_ranges_are_readable() {
         "report 4294967295 1000000",
         "channel - 255 4294967295 4294967295+,0- 4294967295",
         "channel - 18446744073709551615 18446744073709551614 9223372036854775807+ 18446744073709551615",
-        "number 63 18446744073709551615",
+        "number 88 18446744073709551615",
+        "back 4294967295",
+        "settings - 18446744073709551615",
+        "settings true/18446744073709551615,:ffffffff/:00000000,-/-,false/0007 4",
         "number 0 000000000000000000000000000007",
         "   # a comment after blanks",
         "show   # a comment after blanks",
@@ -346,14 +393,17 @@ fn an_unreadable_word_is_shown_escaped_and_cut() {
 
 /// How many of the script's commands are calls.
 fn calls(script: &str) -> usize {
-    const NO_CALLS: [&str; 4] = ["channel", "number", "numbers", "show"];
+    const NO_CALLS: [&str; 5] = ["channel", "number", "numbers", "show", "settings"];
     let words = script.lines().filter_map(|line| line.split(' ').next());
     words.filter(|word| !NO_CALLS.contains(word)).count()
 }
 
 #[test]
 fn what_is_made_is_the_same_each_time_and_plays() {
-    for kind in ["frame", "read", "calls", "recog", "folds", "whose", "all"] {
+    let kinds = [
+        "frame", "read", "calls", "recog", "folds", "whose", "settings", "all",
+    ];
+    for kind in kinds {
         for seed in ["0", "1", "2", "77", "18446744073709551615"] {
             let words = ["gen", seed, "3000", kind];
             let made = second(&words, b"");
@@ -422,6 +472,52 @@ fn what_became_of_each_recognition() {
         "4  not accepted, 404",
     ];
     assert_eq!(lines, expected, "{told}");
+}
+
+#[test]
+fn what_is_told_of_settings() {
+    let channel = "Channel-Identifier:7f3a@speechsynth|";
+    let set = hex(&format!(
+        "MRCP/2.0 85 SET-PARAMS 7|{channel}Fetch-Timeout:2500||"
+    ));
+    let get = hex(&format!("MRCP/2.0 65 GET-PARAMS 8|{channel}|"));
+    let script = format!(
+        "open {}\nmessage 305 {set}\nmessage 305 {get}\nback 2\nback 9\n\
+         settings :3f000000/true 5\nsettings -\n",
+        hex("7f3a@speechsynth"),
+    );
+    let output = second(&["tell"], script.as_bytes());
+    assert_eq!(output.status.code(), Some(0), "{}", text(&output.stderr));
+    let told = text(&output.stdout);
+    let lines = [
+        "== settings now: Kill-On-Barge-In unset, Fetch-Timeout 2500 ms\n",
+        "== told: Kill-On-Barge-In unset, Fetch-Timeout 2500 ms\n",
+        "** going back to edition 2\n== settings now: Kill-On-Barge-In unset, Fetch-Timeout unset\n",
+        "** going back to edition 9\n   refused 12: no edition of that number is kept\n",
+        "== set by the script: settings: 1. Kill-On-Barge-In 0.500000, Fetch-Timeout true; 2. ",
+        "; 4. Kill-On-Barge-In unset, Fetch-Timeout unset; count 5\n",
+        "== set by the script: settings: count 0\n",
+    ];
+    for line in lines {
+        assert!(told.contains(line), "{line}: {told}");
+    }
+}
+
+/// What ten calls of each case about settings sum up to.
+#[test]
+fn the_benchmark_of_settings() {
+    let rows = [
+        ("call-set-params", 670),
+        ("call-set-params-r", 670),
+        ("call-get-params", 1120),
+        ("call-get-params-r", 1500),
+        ("call-speak-4", 710),
+        ("call-back", 40),
+    ];
+    for (case, sum) in rows {
+        let output = second(&["bench", case, "10"], b"");
+        assert_eq!(text(&output.stdout), format!("{sum}\n"), "{case}");
+    }
 }
 
 #[test]

@@ -73,7 +73,7 @@ const WHILE_SPEAKING: &[(&str, &str)] = &[
         "404 COMPLETE",
     ),
     // 7
-    ("MRCP/2.0 {L} SET-PARAMS 6|{C}|", "401 COMPLETE"),
+    ("MRCP/2.0 {L} DEFINE-LEXICON 6|{C}|", "401 COMPLETE"),
     ("MRCP/2.0 {L} SPEAKS 6|{C}|", "401 COMPLETE"),
     // 11
     ("MRCP/2.0 {L} CONTROL 6|{C}Jump-Size:1||", "201 COMPLETE 1"),

@@ -1,4 +1,4 @@
-//! The channel as 64 numbers: their places, what is looked at, and that any may come in.
+//! The channel as 89 numbers: their places, what is looked at, and that any may come in.
 
 mod common;
 
@@ -21,7 +21,8 @@ fn the_places() {
     for (number, byte) in expected[20..].iter_mut().zip(NAME) {
         *number = u64::from(*byte);
     }
-    assert_eq!(NUMBERS, 64);
+    expected[64] = 1;
+    assert_eq!(NUMBERS, 89);
     assert_eq!(with(&[]).0, expected);
     let mut channel = opened();
     handle(&mut channel, &speak(1, ""));
@@ -33,7 +34,7 @@ fn the_places() {
 #[test]
 fn what_is_outside_its_range_is_not_sound() {
     let last = 20 + NAME.len() - 1;
-    let rows: [&[(usize, u64)]; 18] = [
+    let rows: [&[(usize, u64)]; 20] = [
         &[(kept::STATE, 3)],
         &[(kept::STATE, 257)],
         &[(kept::STATE, (1 << 32) + 1)],
@@ -52,6 +53,8 @@ fn what_is_outside_its_range_is_not_sound() {
         &[(kept::NAME, 256 + u64::from(b'7'))],
         &[(last, (1 << 32) + u64::from(b'h'))],
         &[(kept::NAME + 1, u64::MAX)],
+        &[(kept::KEPT, 0)],
+        &[(kept::KEPT, 5)],
     ];
     for row in rows {
         let mut channel = with(row);
@@ -59,6 +62,7 @@ fn what_is_outside_its_range_is_not_sound() {
         let (outcome, _) = handle(&mut channel, &request("STOP 9|{C}|"));
         assert_eq!((outcome.number, outcome.consumed), (21, 0), "{row:?}");
         assert_eq!(report_in(&mut channel, 0, 305).0.number, 21, "{row:?}");
+        assert_eq!(channel.back(1).number, 21, "{row:?}");
         assert_eq!(channel, with(row), "{row:?}");
     }
 }
@@ -66,7 +70,16 @@ fn what_is_outside_its_range_is_not_sound() {
 /// Numbers past count and size are not looked at; a refused call keeps them, a handled one makes them 0.
 #[test]
 fn what_lies_past_count_and_size() {
-    let rest = [(kept::QUEUE + 2, 7), (19, u64::MAX), (36, 1), (63, 256)];
+    let rest = [
+        (kept::QUEUE + 2, 7),
+        (19, u64::MAX),
+        (36, 1),
+        (63, 256),
+        (kept::EDITIONS + 1, 9),
+        (kept::EDITIONS + 4, 4),
+        (kept::EDITIONS + 6, 7),
+        (88, u64::MAX),
+    ];
     let mut channel = with(&rest);
     assert_eq!(channel.held(), Some(vec![1, 3]));
     let (outcome, _) = handle_in(&mut channel, &request("CONTROL 5|{C}|"), 10);
@@ -79,4 +92,9 @@ fn what_lies_past_count_and_size() {
     let (outcome, _) = report_in(&mut channel, 0, 305);
     assert_eq!(outcome.number, 0);
     assert_eq!(channel, given("speaking 5 3-"));
+    let mut channel = with(&rest);
+    assert_eq!(channel.back(5).number, 12);
+    assert_eq!(channel, with(&rest));
+    assert_eq!(channel.back(1).number, 0);
+    assert_eq!(channel, with(&[(kept::KEPT, 2)]));
 }

@@ -80,8 +80,8 @@ fn levels_by_table() {
         ("1e0", None),
     ];
     for (text, expected) in rows {
-        let expected = expected.map(|level| Level(level.to_bits()));
-        assert_eq!(Level::of_value(text.as_bytes()), expected, "{text}");
+        let bits = Level::of_value(text.as_bytes()).map(Level::bits);
+        assert_eq!(bits, expected.map(f32::to_bits), "{text}");
     }
 }
 
@@ -91,13 +91,21 @@ fn levels_are_distinct() {
     let mut before = None;
     for millionths in 0..=1_000_000u32 {
         let (whole, part) = (millionths / 1_000_000, millionths % 1_000_000);
-        let Level(bits) = Level::of_value(format!("{whole}.{part:06}").as_bytes()).unwrap();
+        let level = Level::of_value(format!("{whole}.{part:06}").as_bytes()).unwrap();
+        assert_eq!(level.millionths(), millionths);
+        let bits = level.bits();
         assert!(Some(bits) > before, "{millionths}");
         before = Some(bits);
+        // The bits say which level it is, and those next to them are of none.
+        assert_eq!(Level::of_bits(bits), Some(level), "{millionths}");
+        assert_eq!(Level::of_bits(bits + 1), None, "{millionths}");
+        assert_eq!(Level::of_bits(bits | 1 << 31), None, "{millionths}");
         // Division rounds once, so it gives the single next to the exact quotient.
         let exact = f64::from(millionths) / 1e6;
         assert_eq!(f32::from_bits(bits), exact as f32, "{millionths}");
     }
+    assert_eq!(Level::of_millionths(1_000_001), None);
+    assert_eq!(Level::of_millionths(1 << 32), None);
     let shorter = [("0.1", "0.100000"), ("0.25", "0.250"), ("1", "1.00000")];
     for (short, long) in shorter {
         let level = |text: &str| Level::of_value(text.as_bytes()).unwrap();
@@ -202,10 +210,10 @@ const ROWS: &[Row] = &[
         "recognizing 9 3:3f800000",
     ),
     Row(
-        "recognizing 5 1:3f000000,5:7fc00001",
+        "recognizing 5 1:3f000000,5:358637bd",
         "STOP 9|{R}Active-Request-Id-List:2||",
         "200 COMPLETE",
-        "recognizing 9 1:3f000000,5:7fc00001",
+        "recognizing 9 1:3f000000,5:358637bd",
     ),
     Row(
         "recognizing 5 1:3f000000",
@@ -395,24 +403,21 @@ fn what_counts_as_no_match() {
         (0, 0x8000_0000, false),
         (0, 1, true),
         (0, 0x8000_0001, false),
-        (0x8000_0000, 0, false),
         (0x3f80_0000, 0x3f80_0000, false),
         (0x3f80_0000, 0x3f80_0001, true),
-        (0x7f80_0000, 0x7f80_0000, false),
-        (0xff80_0000, 0xff7f_ffff, true),
-        // No number is greater than what is none.
-        (0x7fc0_0000, 0x7f80_0000, false),
-        (0xffff_ffff, 0x3f80_0000, false),
-        (0x7f80_0001, 0xff80_0000, false),
+        // One millionth.
+        (0x3586_37bd, 0x3586_37bd, false),
+        (0x3586_37bd, 0x3586_37be, true),
+        (0x3586_37bd, 0x3586_37bc, false),
     ];
     for (threshold, score, greater) in rows {
         for (cause, word) in [(0, "000 success"), (8, "008 success-maxtime")] {
-            let before = format!("recognizing 9 3:{threshold:08x},5:ff800000");
+            let before = format!("recognizing 9 3:{threshold:08x},5:00000000");
             let (events, after) = reported(&before, cause, f32::from_bits(*score));
             let row = format!("{threshold:08x} {score:08x}");
             if *greater {
                 assert_eq!(events, format!("3 {word}"), "{row}");
-                assert_eq!(after, "recognizing 9 5:ff800000", "{row}");
+                assert_eq!(after, "recognizing 9 5:00000000", "{row}");
             } else {
                 assert_eq!(events, "3 001 no-match; 5 011 cancelled", "{row}");
                 assert_eq!(after, "recognized 9 -", "{row}");
@@ -513,7 +518,7 @@ fn refusals_of_reports() {
 
 #[test]
 fn soundness_by_table() {
-    let eight: Vec<String> = (1..=8).map(|id| format!("{id}:ffffffff")).collect();
+    let eight: Vec<String> = (1..=8).map(|id| format!("{id}:3f800000")).collect();
     let eight = format!("recognizing 8 {}", eight.join(","));
     let nine = format!("{eight} 9");
     let rows: &[(&str, bool)] = &[
@@ -546,6 +551,16 @@ fn soundness_by_table() {
         ("recognizing 5 4294967297:00000000", false),
         ("recognizing 5 - 1", true),
         ("recognizing 5 1:00000000,9:00000000 1", true),
+        // Thresholds that reading can give, and others.
+        ("recognizing 5 1:3f800000,2:358637bd", true),
+        ("recognizing 5 1:80000000", false),
+        ("recognizing 5 1:3f800001", false),
+        ("recognizing 5 1:00000001", false),
+        ("recognizing 5 1:3eaaaaab", false),
+        ("recognizing 5 1:bf000000", false),
+        ("recognizing 5 1:7f800000", false),
+        ("recognizing 5 1:00000000,2:7fc00000", false),
+        ("recognizing 5 1:00000000,2:7fc00000 1", true),
     ];
     for (words, sound) in rows {
         let mut channel = recognizer(words);
@@ -557,13 +572,14 @@ fn soundness_by_table() {
     }
 }
 
-/// 4 to 11 are the entries' numbers, 12 to 19 the bits of their thresholds.
+/// 4 to 11 are the entries' numbers, 12 to 19 the millionths of their thresholds.
 #[test]
 fn the_places() {
     let mut expected = [0; NUMBERS];
     expected[..6].copy_from_slice(&[3, 6, 2, 16, 3, 7]);
-    expected[12] = 0x3f00_0000;
+    expected[12] = 500_000;
     expected[13] = 0;
+    expected[64] = 1;
     for (number, byte) in expected[20..].iter_mut().zip(RECOGNIZER) {
         *number = u64::from(*byte);
     }
@@ -574,8 +590,11 @@ fn the_places() {
     assert_eq!(channel.0, expected);
     let words = "recognizing 5 1:3f000000,3:00000000";
     assert_eq!(channel, recognizer(words));
-    // A threshold is 32 bits, a synthesizer's places there are its queue's.
-    for value in [1 << 32, u64::MAX] {
+    // A threshold is at most one, a synthesizer's places there are its queue's.
+    let mut channel = recognizer(words);
+    channel.0[13] = 1_000_000;
+    assert!(channel.is_sound());
+    for value in [1_000_001, 0x3f00_0000, 1 << 32, u64::MAX] {
         let mut channel = recognizer(words);
         channel.0[13] = value;
         assert!(!channel.is_sound());
@@ -604,8 +623,17 @@ fn what_is_shown() {
         format!("recognizing 5 1:3f000000{} 9", ",0:00000000".repeat(7))
     );
     channel.0[kept::COUNT] = 1;
-    channel.0[12] = (7 << 32) + 0xabcd;
-    assert_eq!(shown(&channel), "recognizing 5 1:0000abcd");
+    // Millionths as the bits of their level, any other number as its last 32.
+    let numbers = [
+        (250_000, "3e800000"),
+        (1_000_000, "3f800000"),
+        (1_000_001, "000f4241"),
+        ((7 << 32) + 0xabcd, "0000abcd"),
+    ];
+    for (number, bits) in numbers {
+        channel.0[12] = number;
+        assert_eq!(shown(&channel), format!("recognizing 5 1:{bits}"));
+    }
     // A name that does not end so is read and shown as a synthesizer's.
     channel.0[kept::SIZE] -= 1;
     assert_eq!(shown(&channel), "recognizing 5 1+");

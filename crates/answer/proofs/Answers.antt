@@ -35,13 +35,13 @@ list-few (i ∷ is) = lit≤ tt
 
 module _ (name : List ℕ) where
   -- no known name comes twice
-  pub list-once : (ids : List ℕ) → onceEach (namesOf (channelIdentifier name ∷ activeRequestIdList ids)) ≡ true
+  pub list-once : (ids : List ℕ) → onceEach true (namesOf (channelIdentifier name ∷ activeRequestIdList ids)) ≡ true
   unfolding knownOf
   list-once [] = refl
   list-once (i ∷ is) = refl
 
   pub cause-once : (kind : Kind) (cause : ℕ)
-      → onceEach (namesOf (channelIdentifier name ∷ completionCause kind cause ∷ [])) ≡ true
+      → onceEach true (namesOf (channelIdentifier name ∷ completionCause kind cause ∷ [])) ≡ true
   unfolding knownOf
   cause-once kind cause = refl
 

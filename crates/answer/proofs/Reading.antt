@@ -1,17 +1,20 @@
 -- A writable message, written at the front of lent bytes, reads as the places of its parts, and its parts stand there.
 use Prim.Native.Nat.{ℕ, _+_, _-_}
 use mathlib.Core.Path.{_≡_, refl, sym, ap, _∙_}
-use mathlib.Core.Bool.{true}
+use mathlib.Core.Bool.{Bool, true, false, _&&_, _||_, not, or-true}
 use mathlib.Core.List.{List, [], _∷_, _++_, map, append-nil}
+use lib.Dec.{leb}
 use lib.ListN.{length, drop, length-drop}
 use lib.Seq.{take-append-seam}
+use Rattle.lists.proofs.Tests.{both}
 use Rattle.framing.specs.Framing.{opening, framing}
 use Rattle.message.specs.Message.{Field, good, Head, refused, message, Message, part, onField, onReading}
 use Rattle.message.specs.Fields.{lines}
-use Rattle.message.specs.Known.{onceEach, namesOf, valueOf}
-use Rattle.message.specs.Reading.{agrees, judged, fieldsFrom, readFramed, reading, readBytes}
+use Rattle.message.specs.Known.{indexOf, is, isKnown, among, onceEach, namesOf, valueOf}
+use Rattle.message.specs.Reading.{agrees, asksParams, judged, fieldsFrom, readFramed, reading, readBytes}
 use Rattle.message.specs.declared.Span.{Span}
-use Rattle.message.specs.declared.Known.the-variants.{ContentLength}
+use Rattle.message.specs.declared.Known.{Known}
+use Rattle.message.specs.declared.Known.the-variants.{ContentLength, Unknown}
 use Rattle.message.proofs.Theorems.JudgedAlike.{lengths-alike}
 use Rattle.answer.specs.Written.{startText, fieldsText, written}
 use Rattle.answer.specs.Writable.{Writable}
@@ -25,11 +28,23 @@ pub nothing-read : readBytes [] ≡ refused 1 0
 unfolding readBytes reading framing opening
 nothing-read = refl
 
+-- where no setting's name comes twice, none does that counts, whatever the method
+once-first : (low known came : Bool) → not ((true && known) && came) ≡ true → not (((low || false) && known) && came) ≡ true
+once-first true known came e = e
+once-first false known came e = refl
+
+once-any : (params : Bool) (ks : List Known) → onceEach true ks ≡ true → onceEach params ks ≡ true
+once-any true ks e = e
+once-any false [] e = refl
+once-any false (k ∷ ks) e =
+    let (first, rest) = both (not (isKnown true k && among k ks)) (onceEach true ks) e in
+    rw (once-first (leb (indexOf k) 8) (not (is k Unknown)) (among k ks) (rw or-true at first)) (once-any false ks rest)
+
 -- judgement 2 passes what keeps its rules
-judged-good : (f : List ℕ) (fs : List (Field Span)) (b : ℕ) (texts : List (Field (List ℕ))) (n : ℕ)
-    → map (onField (part f)) fs ≡ texts → length f - b ≡ n → onceEach (namesOf texts) ≡ true → agrees (valueOf ContentLength texts) n ≡ true
-    → judged f (lines fs b) ≡ good fs (record { start = b; len = n })
-judged-good f fs b texts n e l once fits =
+judged-good : (params : Bool) (f : List ℕ) (fs : List (Field Span)) (b : ℕ) (texts : List (Field (List ℕ))) (n : ℕ)
+    → map (onField (part f)) fs ≡ texts → length f - b ≡ n → onceEach params (namesOf texts) ≡ true → agrees (valueOf ContentLength texts) n ≡ true
+    → judged params f (lines fs b) ≡ good fs (record { start = b; len = n })
+judged-good params f fs b texts n e l once fits =
     rw (e, l, once, lengths-alike (valueOf ContentLength texts) n ∙ fits, judged) (rw l)
 
 module _ (m : Message) where
@@ -57,13 +72,13 @@ module _ (m : Message) where
   abbrev bodyPlace : Span
   bodyPlace = record { start = bodyAt; len = length (m .body) }
 
-  fields-from : Writable m → fieldsFrom (written m) fieldsAt ≡ good (fieldsPlaces fieldsAt (m .fields)) bodyPlace
+  fields-from : (params : Bool) → Writable m → fieldsFrom params (written m) fieldsAt ≡ good (fieldsPlaces fieldsAt (m .fields)) bodyPlace
   unfolding fieldsFrom
-  fields-from w =
+  fields-from params w =
       let e = at-fields (written m) [] alone in
-      ap (judged (written m)) (fields-read 32 (written m) fieldsAt (m .fields) (m .body ++ []) (w .few) (w .fields) e)
-      ∙ judged-good (written m) (fieldsPlaces fieldsAt (m .fields)) bodyAt (m .fields) (length (m .body))
-      (fields-back (written m) fieldsAt (m .fields) _ e) body-length (w .once) (w .length-agrees)
+      ap (judged params (written m)) (fields-read 32 (written m) fieldsAt (m .fields) (m .body ++ []) (w .few) (w .fields) e)
+      ∙ judged-good params (written m) (fieldsPlaces fieldsAt (m .fields)) bodyAt (m .fields) (length (m .body))
+      (fields-back (written m) fieldsAt (m .fields) _ e) body-length (once-any params (namesOf (m .fields)) (w .once)) (w .length-agrees)
 
   abbrev pub head : Head
   head = record { stated = length (written m); major = 2; minor = 0 }
@@ -73,7 +88,7 @@ module _ (m : Message) where
   unfolding reading
   read-places rest w =
       ap (readFramed (written m ++ rest)) (frame m rest (w .fits))
-      ∙ rw (take-append-seam (written m) rest, start-read (written m) (opens m) (m .start) _ (w .start) alone, fields-from w)
+      ∙ rw (take-append-seam (written m) rest, start-read (written m) (opens m) (m .start) _ (w .start) alone, fields-from (asksParams (written m) (startPlaces (opens m) (m .start))) w)
 
   pub parts-stand : (rest : List ℕ) → Writable m → readBytes (written m ++ rest) ≡ message head (m .start) (good (m .fields) (m .body))
   unfolding readBytes

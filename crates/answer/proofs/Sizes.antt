@@ -17,7 +17,7 @@ use Rattle.message.specs.declared.RequestState.{RequestState}
 use Rattle.message.specs.declared.RequestState.the-variants.{Pending, InProgress, Complete}
 use Rattle.answer.specs.Written.{startText, fieldText, fieldsText, afterLength, written}
 use Rattle.answer.specs.IdList.{behindCommas, idListText}
-use Rattle.answer.specs.Answers.{channelIdentifier, activeRequestIdList, eventName, completionCause, response, complete}
+use Rattle.answer.specs.Answers.{channelIdentifier, activeRequestIdList, eventName, completionCause, response, telling, complete}
 use Rattle.answer.specs.declared.Kind.{Kind}
 use Rattle.answer.proofs.Places.{field-size}
 use Rattle.answer.proofs.Frames.{written-length}
@@ -86,6 +86,21 @@ response-size name id status state ids n i l =
     omega (
       arith,
       message-size (response name id status state ids) (omega (arith, start, fields, id-most id i, state-most state)),
+      start,
+      fields,
+      id-most id i,
+    )
+
+-- one that tells fields
+pub telling-size : (name : List ℕ) (id status : ℕ) (fs : List (Field (List ℕ))) → length name ≤ 44 → id < 4294967296
+    → length (fieldsText fs) ≤ 200 → length (written (telling name id status fs)) ≤ 105 + length (fieldsText fs)
+unfolding telling
+telling-size name id status fs n i l =
+    let start = response-start id status Complete in
+    let fields = fields-size (channelIdentifier name) fs in
+    omega (
+      arith,
+      message-size (telling name id status fs) (omega (arith, start, fields, id-most id i)),
       start,
       fields,
       id-most id i,

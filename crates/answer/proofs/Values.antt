@@ -63,14 +63,14 @@ visible v a = record { values = all-of isVisible isValue a-value v a; front = vi
 
 -- ---- lists of ids
 
-digit-visible : (x : ℕ) → isDigit x ≡ true → isVisible x ≡ true
+pub digit-visible : (x : ℕ) → isDigit x ≡ true → isVisible x ≡ true
 digit-visible x e =
     let h = both (leb 48 x) (leb x 57) e in
     let low : 48 ≤ x = leb-true 48 x (h .0) in
     let high : x ≤ 57 = leb-true x 57 (h .1) in
     rw (le-leb 33 x (omega arith), le-leb x 126 (omega arith))
 
-digits-visible : (n : ℕ) → all isVisible (digits n) ≡ true
+pub digits-visible : (n : ℕ) → all isVisible (digits n) ≡ true
 digits-visible n = all-of isDigit isVisible digit-visible (digits n) (digits-all n)
 
 commas-visible : (is : List ℕ) → all isVisible (behindCommas is) ≡ true

@@ -1,4 +1,4 @@
--- Responses and events of a channel: document 01, "Bytes written" and "States and queue", and document 02, K1.
+-- Responses and events of a channel: document 01, "Bytes written" and "States and queue", and document 02, K1 and K5.
 use Prim.Native.Nat.{ℕ}
 use mathlib.Core.List.{List, [], _∷_, _++_, map}
 use lib.ListN.{getD}
@@ -28,6 +28,10 @@ response name id status state ids =
 -- the same for an answer as the code has it
 abbrev pub responseOf : List ℕ → Answer → List ℕ → Message
 responseOf name a ids = response name (a .id) (a .status .code) (a .state) ids
+
+-- the answer to request id that tells these fields
+unfoldable pub telling : List ℕ → ℕ → ℕ → List (Field (List ℕ)) → Message
+telling name id status fields = record { start = M.response id status Complete; fields = channelIdentifier name ∷ fields; body = [] }
 
 -- the names of the causes, 0 to 7 of a synthesizer and 0 to 15 of a recognizer
 abbrev pub causeNames : Kind → List (List ℕ)

@@ -35,6 +35,6 @@ pub record Writable (m : Message) : Type 0 where
   pub start : StartFits (m .start)
   pub few : length (m .fields) ≤ 32
   pub fields : All FieldFits (m .fields)
-  pub once : onceEach (namesOf (m .fields)) ≡ true
+  pub once : onceEach true (namesOf (m .fields)) ≡ true
   pub length-agrees : agrees (valueOf ContentLength (m .fields)) (length (m .body)) ≡ true
   pub fits : length (written m) ≤ 16384

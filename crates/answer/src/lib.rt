@@ -79,6 +79,8 @@ impl Status {
 
     pub const NOT_VALID_IN_STATE: u32 = 402;
 
+    pub const UNSUPPORTED_FIELD: u32 = 403;
+
     pub const ILLEGAL_VALUE: u32 = 404;
 
     pub const NO_SUCH_CHANNEL: u32 = 405;
@@ -123,6 +125,14 @@ impl Status {
     {
         Status {
             code: Self::NOT_VALID_IN_STATE,
+        }
+    }
+
+    pub fn unsupported_field() -> Status
+        ensures { λ r. ⌜ r .code ≡ 403 ⌝ }
+    {
+        Status {
+            code: Self::UNSUPPORTED_FIELD,
         }
     }
 

@@ -1,17 +1,21 @@
 -- What a call leaves, one law for each way out. Assumes nothing.
 use Prim.Native.Nat.{ℕ, _≤_}
 use mathlib.Core.Path.{_≡_, refl, sym, ap, subst, _∙_}
-use mathlib.Core.Bool.{Bool, true, false}
+use mathlib.Core.Bool.{Bool, true, false, _&&_}
 use mathlib.Core.List.{List, _++_}
 use native.Mathlib.Nat.{le-trans}
 use native.Mathlib.Omega.{arith}
-use lib.Dec.{ltb}
+use lib.Dec.{ltb, leb}
 use lib.ListN.{length, drop}
+use borrow.Author.Tests.{leb-true}
+use Rattle.lists.specs.Lists.{all}
+use Rattle.lists.proofs.Tests.{both}
 use Rattle.answer.specs.Written.{writtenAll}
 use Rattle.output.specs.Delivery.{counted, delivered}
 use Rattle.output.specs.declared.Written.{Written}
 use Rattle.ledger.specs.Ledger.{Turn}
-use Rattle.synth.specs.Channel.{View, kind, sound}
+use Rattle.synth.specs.Settings.{isEditionOf}
+use Rattle.synth.specs.Channel.{View, kind, areEditions, sound}
 use Rattle.synth.specs.Calls.{Call, Reply, refuse, deliver, call}
 use Rattle.synth.specs.States as S
 use Rattle.synth.proofs.Channels.{sound-facts, most-16}
@@ -29,6 +33,13 @@ module _ (v : View) (s : sound v ≡ true) where
 
   pub queue-short : length (v .queue) ≤ 16
   queue-short = le-trans (sound-facts v s .few) (most-16 (kind v))
+
+  pub editions-short : length (v .editions) ≤ 4
+  unfolding areEditions
+  editions-short =
+      let few = both (leb 1 (length (v .editions)) && leb (length (v .editions)) 4) (all (isEditionOf (kind v)) (v .editions))
+      (sound-facts v s .editions-fit) .0 in
+      leb-true (length (v .editions)) 4 (both (leb 1 (length (v .editions))) (leb (length (v .editions)) 4) few .1)
 
 module _ {last : LastId} {c : Channel} where
   pub turned : {t u : Turn View Reply} {out : List ℕ} {r : Handled} {after : List ℕ} → t ≡ u → Leaves last c t out r after → Leaves last c u out r after

@@ -43,6 +43,6 @@ pub record Leaves (last : LastId) (c : Channel) (t : Turn View Reply) (out : Lis
   pub same : leftIn r after ≡ leftBy t out
   pub kept : (r .number ≡ 0 → ⊥) → (r .last ≡ last) × (r .channel ≡ c)
 
--- the promise of `handle` and `report`: of any channel, any input or cause, and any output
+-- the promise of `handle`, `report` and `go_back`: of any channel, any input, cause or number, and any output
 abbrev pub Promise : LastId → Channel → Lent → List ℕ → Handled → List ℕ → Type 0
 Promise last c lent out r after = Leaves last c (call (view last c) (record { lent = lent; room = length out })) out r after

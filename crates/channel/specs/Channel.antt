@@ -1,17 +1,36 @@
 -- The channel that the code keeps, with the last id seen beside it, as document 01 views it.
+use mathlib.Core.List.{List}
+use Rattle.synth.specs.Settings.{newest}
 use Rattle.synth.specs.Channel.{View}
 use Rattle.synth.specs.Calls as C
 use Rattle.synth.specs.declared.State.the-variants.{Idle}
+use Rattle.synth.specs.declared.Edition.{Edition}
 use Rattle.synth.specs.declared.LastId.{LastId}
 use Rattle.synth.specs.declared.LastId.the-variants.{NoneSeen}
 use Rattle.channelnames.specs.Names.{nameOf}
 use Rattle.channelnames.specs.declared.Name.{Name}
 use Rattle.queue.specs.Queue.{listOf, emptyQueue}
+use Rattle.settings.specs.Kept.{editionsOf, freshEditions}
 use Rattle.channel.specs.declared.Channel.{Channel}
+use Rattle.channel.specs.declared.Current.{Current}
 use Rattle.channel.specs.declared.Opened.{Opened}
 
 abbrev pub view : LastId → Channel → View
-view last c = record { name = nameOf (c .name); state = c .state; queue = listOf (c .queue); last = last }
+view last c = record {
+  name = nameOf (c .name);
+  state = c .state;
+  queue = listOf (c .queue);
+  last = last;
+  editions = editionsOf (c .editions);
+}
+
+-- the same of what a request is judged on, with editions of which its settings are the newest
+abbrev pub viewOn : LastId → Current → List Edition → View
+viewOn last c es =
+    record { name = nameOf (c .name); state = c .state; queue = listOf (c .queue); last = last; editions = es }
+
+abbrev pub currentOf : Channel → Current
+currentOf c = record { name = c .name; state = c .state; queue = c .queue; set = newest (editionsOf (c .editions)) }
 
 -- an opening as the paper has it
 abbrev pub opened : Opened → C.Opened
@@ -19,4 +38,4 @@ opened o = record { number = o .number; channel = view NoneSeen (o .channel) }
 
 -- an opened channel as it is kept
 abbrev pub kept : Name → Channel
-kept name = record { name = name; state = Idle; queue = emptyQueue }
+kept name = record { name = name; state = Idle; queue = emptyQueue; editions = freshEditions }

@@ -1,15 +1,17 @@
-// A channel by value, its soundness and its opening: document 01, "Refusal numbers", and document 02, K1.
+// A channel by value, its soundness and its opening: document 01, "Refusal numbers", and document 02, K1 and K5.
 ghost use mathlib.Core.Path.{_≡_};
 ghost use Prim.Native.Nat.{_≤_};
 ghost use lib.Dec.{leb};
 ghost use Rattle.synth.specs.Kinds.{kindOf};
-ghost use Rattle.synth.specs.Channel.{sound, withQueue, is, idleUnseen, firstAbove};
+ghost use Rattle.synth.specs.Channel.{shaped, sound, withQueue, withEdition, is, idleUnseen, firstAbove};
 ghost use Rattle.synth.specs.declared.State.the-variants.{Idle};
 ghost use Rattle.synth.specs.Calls.{openChannel};
+ghost use mathlib.Core.List.{List};
+ghost use Rattle.synth.specs.declared.Edition.{Edition};
 ghost use Rattle.synth.specs.declared.LastId.{LastId};
 ghost use Rattle.channelnames.specs.Names.{nameOf};
 ghost use Rattle.queue.specs.Queue.{listOf};
-ghost use Rattle.channel.specs.Channel.{view, opened, kept};
+ghost use Rattle.channel.specs.Channel.{view, viewOn, currentOf, opened, kept};
 
 // What the caller keeps of a channel, but for the last id seen, which stands beside it. The state stands last: in front
 // of the queue it would split each copy in two.
@@ -17,6 +19,16 @@ pub struct Channel {
     pub name: channelnames::Name,
     pub queue: queue::Queue,
     pub state: synth::State,
+    pub editions: settings::Editions,
+}
+
+// What a request is judged on: the channel with its settings of the moment. The older editions stay behind, since each
+// step that is handed a channel costs a copy.
+pub struct Current {
+    pub name: channelnames::Name,
+    pub queue: queue::Queue,
+    pub state: synth::State,
+    pub set: synth::Edition,
 }
 
 // An opening's number, and its channel, on which no id was seen.
@@ -72,17 +84,20 @@ fn idle_unseen(last: synth::LastId, state: synth::State) -> bool
     }
 }
 
-// Any channel at all may be handed in, its size and its count past the arrays too.
-pub fn is_sound(last: synth::LastId, c: Channel) -> bool
-    ensures { λ r. ⌜ r ≡ sound (view last c) ⌝ }
+// Soundness but for the settings and thresholds.
+fn is_shaped(
+    last: synth::LastId,
+    name: channelnames::Name,
+    state: synth::State,
+    queue: queue::Queue,
+) -> bool
+    ensures { λ r. ⌜ ((es : List Edition) → r
+        ≡ shaped (record { name = nameOf name; state = state; queue = listOf queue; last = last; editions = es })) ⌝ }
 {
-    let name = c.name;
     if !channelnames::is_well_named(name) {
         return false;
     }
     let kind = channelnames::kind_by(name);
-    let state = c.state;
-    let queue = c.queue;
     if !queue::fits(kind, state, queue::is_empty(queue)) {
         return false;
     }
@@ -92,7 +107,39 @@ pub fn is_sound(last: synth::LastId, c: Channel) -> bool
     queue::is_rising(kind, queue, first_above(last))
 }
 
-// A channel anew, and one with another state and queue. Only `loading` builds one otherwise, from C's numbers.
+// Any channel at all may be handed in, its size and its counts past the arrays too. No queue has a threshold that
+// reading cannot give.
+pub fn is_sound(last: synth::LastId, c: Channel) -> bool
+    ensures { λ r. ⌜ r ≡ sound (view last c) ⌝ }
+{
+    let name = c.name;
+    let state = c.state;
+    let queue = c.queue;
+    if !is_shaped(last, name, state, queue) {
+        return false;
+    }
+    let editions = c.editions;
+    settings::are_editions(channelnames::kind_by(name), editions)
+}
+
+pub fn present(c: Channel) -> Current
+    ensures { λ r. ⌜ r ≡ currentOf c ⌝ }
+{
+    let name = c.name;
+    let state = c.state;
+    let queue = c.queue;
+    let editions = c.editions;
+    let set = settings::newest(editions);
+    Current {
+        name,
+        state,
+        queue,
+        set,
+    }
+}
+
+// A channel anew, one with another state and queue, and one with a further edition. Only `loading` builds one
+// otherwise, from C's numbers.
 pub fn fresh(name: channelnames::Name) -> Channel
     ensures { λ r. ⌜ r ≡ kept name ⌝ }
 {
@@ -100,6 +147,7 @@ pub fn fresh(name: channelnames::Name) -> Channel
         name,
         state: synth::State::Idle,
         queue: queue::empty(),
+        editions: settings::fresh(),
     }
 }
 
@@ -107,6 +155,13 @@ pub fn with_queue(c: Channel, state: synth::State, queue: queue::Queue) -> Chann
     ensures { λ r. ⌜ ((last : LastId) → view last r ≡ withQueue state (listOf queue) (view last c)) ⌝ }
 {
     Channel { state, queue, ..c }
+}
+
+pub fn with_edition(c: Channel, e: synth::Edition) -> Channel
+    ensures { λ r. ⌜ ((last : LastId) → view last r ≡ withEdition e (view last c)) ⌝ }
+{
+    let editions = settings::further(c.editions, e);
+    Channel { editions, ..c }
 }
 
 // A refused opening gives a channel with an empty name, so not sound.

@@ -1,36 +1,41 @@
--- One turn of each loop that saves, and the 64 numbers that they leave. Assumes nothing.
+-- One turn of each loop that saves, and the 89 numbers that they leave. Assumes nothing.
 use Prim.Native.Nat.{ℕ, zero, suc, _+_, _-_, _*_, _%_, _≤_, _<_}
 use mathlib.Core.Path.{_≡_, refl, sym, ap, ap₂, _∙_}
 use mathlib.Core.Bool.{Bool, true, false, cond}
-use mathlib.Core.List.{List, [], _∷_, _++_, map, append-assoc}
-use native.Mathlib.Nat.{zero-add, sub-zero}
+use mathlib.Core.List.{List, [], _∷_, _++_, map, append-assoc, append-nil}
+use native.Mathlib.Nat.{zero-add, add-zero, sub-zero}
 use native.Mathlib.Numerals.{add-one}
 use native.Mathlib.Omega.{arith}
 use lib.ListN.{length, take, drop, getD, set, replicate, length-append, length-map, length-replicate, length-set}
-use lib.Seq.{paste, paste-zero, paste-suc, drop-append-add, take-append-add}
+use lib.Seq.{paste, paste-zero, paste-suc, take-paste, drop-paste, drop-append-add, take-append-add}
+use lib.Seq.{take-all, take-nil, drop-drop, take-set-le, drop-set-lt}
 use borrow.Author.Tests.{eqb-true, eqb-false}
 use mir.Val.{Val}
 use denote.Laws.{Is}
 use Rattle.answer.specs.declared.Kind.{Kind}
 use Rattle.synth.specs.Kinds.{most, stateNumber}
+use Rattle.synth.specs.Settings.{unset}
 use Rattle.synth.specs.Channel.{firstAbove}
 use Rattle.synth.specs.declared.Entry.{Entry}
+use Rattle.synth.specs.declared.Edition.{Edition}
 use Rattle.synth.specs.declared.LastId.{LastId}
 use Rattle.synth.proofs.Channels.{most-16}
 use Rattle.channelnames.specs.Names.{nameOf, kindBy}
 use Rattle.channelnames.proofs.Names.{size-is, within as name-within}
-use Rattle.queue.specs.Queue.{idIn, killIn, entryIn, entriesOf, listOf}
+use Rattle.queue.specs.Queue.{idIn, killIn, levelIn, entryIn, entriesOf, listOf}
 use Rattle.queue.proofs.Queues.{entriesIn, as-many, count-is, within as queue-within}
+use Rattle.settings.specs.Kept.{editionsOf}
+use Rattle.settings.proofs.Keeping as E
 use Rattle.channel.specs.Channel.{view}
 use Rattle.channel.specs.declared.Channel.{Channel}
 use Rattle.channel.proofs.Channel.{the-row}
 use Rattle.channelnumbers.specs.Steps.{Stored, stored, thresholdCount}
-use Rattle.channelnumbers.specs.Numbers.{entryNumber, thresholds, padded, queueNumbers, numbersOf}
+use Rattle.channelnumbers.specs.Numbers.{entryNumber, thresholds, padded, queueNumbers, editionNumbers, editionsNumbers, numbersOf}
 
-number-at : (numbers : List ℕ) (i : ℕ) → i < length numbers → getD (map stored numbers) i 0 ≡ stored (getD numbers i 0)
-number-at [] i h = absurd (omega arith)
-number-at (n ∷ numbers) zero h = refl
-number-at (n ∷ numbers) (suc i) h = number-at numbers i (omega arith)
+number-at : (f : ℕ → ℕ) (numbers : List ℕ) (i : ℕ) → i < length numbers → getD (map f numbers) i 0 ≡ f (getD numbers i 0)
+number-at f [] i h = absurd (omega arith)
+number-at f (n ∷ numbers) zero h = refl
+number-at f (n ∷ numbers) (suc i) h = number-at f numbers i (omega arith)
 
 -- an entry's number is that which it is told by
 entry-stored : (n m : ℕ) → entryNumber (entryIn n m) ≡ stored n
@@ -49,34 +54,132 @@ entry-numbers (suc n) (h ∷ numbers) [] e = absurd (let z : 0 ≡ suc (length n
 entry-numbers (suc n) (h ∷ numbers) (m ∷ levels) e = ap₂ (λ (x : ℕ) (l : List ℕ). x ∷ l) (entry-stored h m) (entry-numbers n numbers levels (omega (arith, e)))
 
 entry-thresholds : (n : ℕ) (numbers levels : List ℕ) → length levels ≡ length numbers
-    → thresholds (take n (entriesOf numbers levels)) ≡ take n levels
+    → thresholds (take n (entriesOf numbers levels)) ≡ take n (map levelIn levels)
 entry-thresholds zero numbers levels e = refl
 entry-thresholds (suc n) [] [] e = refl
 entry-thresholds (suc n) [] (m ∷ levels) e = absurd (let z : suc (length levels) ≡ 0 = e in omega arith)
 entry-thresholds (suc n) (h ∷ numbers) [] e = absurd (let z : 0 ≡ suc (length numbers) = e in omega arith)
-entry-thresholds (suc n) (h ∷ numbers) (m ∷ levels) e = ap (λ (l : List ℕ). m ∷ l) (entry-thresholds n numbers levels (omega (arith, e)))
+entry-thresholds (suc n) (h ∷ numbers) (m ∷ levels) e = ap (λ (l : List ℕ). levelIn m ∷ l) (entry-thresholds n numbers levels (omega (arith, e)))
 
-pub stored-none : (w : List ℕ) (at : ℕ) (l : List ℕ) → length w ≡ 64 → Stored w at l 0 w
+pub stored-none : (w : List ℕ) (at : ℕ) (l : List ℕ) → length w ≡ 89 → Stored w at l 0 w
 stored-none w at l h = record { long = h; kept = h; pasted = paste-zero w at l }
 
--- one number more
-stored-more : {w l ws : List ℕ} {at i : ℕ} (x : ℕ) → at + i < 64 → i < length l → Stored w at l i ws → x ≡ getD l i 0 → Stored w at l (i + 1) (set ws (at + i) x)
-stored-more {w} {l} {ws} {at} {i} x h k s f = record {
+-- one number more, in the place behind
+pub stored-next : {w l ws : List ℕ} {at i : ℕ} (k x : ℕ) → k ≡ at + i → at + i < 89 → i < length l → Stored w at l i ws
+    → x ≡ getD l i 0 → Stored w at l (i + 1) (set ws k x)
+stored-next {w} {l} {ws} {at} {i} k x e h j s f = record {
   long = s .long;
-  kept = length-set ws (at + i) x ∙ s .kept;
-  pasted = rw (s .pasted, f, add-one i) (paste-suc w at l i 0 (omega (arith, s .long)) k);
+  kept = length-set ws k x ∙ s .kept;
+  pasted = rw (s .pasted, f, e, add-one i) (paste-suc w at l i 0 (omega (arith, s .long)) j);
 }
 
-pub entry-more : {w ws : List ℕ} (numbers : List ℕ) {i : ℕ} → length numbers ≡ 16 → i < 16 → Stored w 4 (map stored numbers) i ws
-    → Stored w 4 (map stored numbers) (i + 1) (set ws (4 + i) (stored (getD numbers i 0)))
-entry-more {w} {ws} numbers {i} m h s = stored-more _ (omega arith) (rw length-map (omega arith)) s (sym (number-at numbers i (omega arith)))
+-- what stood in the first place does not matter
+pub stored-over : {w l ws : List ℕ} {at : ℕ} (n x : ℕ) → length w ≡ 89 → Stored (set w at x) at l (n + 1) ws → Stored w at l (n + 1) ws
+stored-over {w} {l} {ws} {at} n x h s = record {
+  long = h;
+  kept = s .kept;
+  pasted = s .pasted
+      ∙ ap₂ (λ (p q : List ℕ). p ++ take (n + 1) l ++ q) (take-set-le at w at x (omega arith)) (drop-set-lt (at + (n + 1)) w at x (omega arith));
+}
 
-pub threshold-more : {w ws levels : List ℕ} {i : ℕ} → length levels ≡ 16 → i < 16 → Stored w 12 levels i ws
-    → Stored w 12 levels (i + 1) (set ws (12 + i) (getD levels i 0))
-threshold-more {w} {ws} {levels} {i} m h s = stored-more (getD levels i 0) (omega arith) (omega arith) s refl
+-- what a loop stores of each number
+pub number-more : {w ws : List ℕ} (f : ℕ → ℕ) (numbers : List ℕ) {at i n : ℕ} → length numbers ≡ n → i < n → at + n ≤ 89
+    → Stored w at (map f numbers) i ws → Stored w at (map f numbers) (i + 1) (set ws (at + i) (f (getD numbers i 0)))
+number-more {w} {ws} f numbers {at} {i} {n} m h room s =
+    stored-next (at + i) _ refl (omega arith) (rw length-map (omega arith)) s (sym (number-at f numbers i (omega arith)))
 
-pub byte-more : {w ws name : List ℕ} {i : ℕ} → length name ≡ 44 → i < 44 → Stored w 20 name i ws → Stored w 20 name (i + 1) (set ws (20 + i) (getD name i 0))
-byte-more {w} {ws} {name} {i} m h s = stored-more (getD name i 0) (omega arith) (omega arith) s refl
+pub byte-more : {w ws name : List ℕ} {i : ℕ} → length name ≡ 44 → i < 44 → Stored w 20 name i ws
+    → Stored w 20 name (i + 1) (set ws (20 + i) (getD name i 0))
+byte-more {w} {ws} {name} {i} m h s = stored-next (20 + i) _ refl (omega arith) (omega arith) s refl
+
+-- more of them, stored from the place behind on
+stored-then : {w mid ws l m : List ℕ} {at n k : ℕ} → at ≤ 89 → n ≤ length l → Stored w at l n mid
+    → Stored mid (at + n) m k ws → take n l ++ take k m ≡ take (n + k) l → Stored w at l (n + k) ws
+stored-then {w} {mid} {ws} {l} {m} {at} {n} {k} h j s t e =
+    let room : at ≤ length w = omega (arith, s .long) in
+    let next : at + n + k ≡ at + (n + k) = omega arith in
+    let front : take (at + n) mid ≡ take at w ++ take n l = ap (take (at + n)) (s .pasted) ∙ take-paste w at l n room j in
+    let behind : drop (at + n + k) mid ≡ drop (at + (n + k)) w =
+    sym (drop-drop k (at + n) mid)
+    ∙ ap (drop k) (ap (drop (at + n)) (s .pasted) ∙ drop-paste w at l n room j)
+    ∙ drop-drop k (at + n) w
+    ∙ ap (λ (p : ℕ). drop p w) next in
+    record {
+      long = s .long;
+      kept = t .kept;
+      pasted = t .pasted
+          ∙ ap₂ (λ (p q : List ℕ). p ++ take k m ++ q) front behind
+          ∙ ap (λ (p : List ℕ). p ++ drop (at + (n + k)) w) (append-assoc (take at w) (take n l) (take k m))
+          ∙ ap (λ (p : List ℕ). take at w ++ p ++ drop (at + (n + k)) w) e;
+    }
+
+-- six numbers, one behind the other
+pub stored-six : (w : List ℕ) (at a b c d e f : ℕ) → length w ≡ 89 → at ≤ 83
+    → Stored w at (a ∷ b ∷ c ∷ d ∷ e ∷ f ∷ []) 6
+    (set (set (set (set (set (set w at a) (at + 1) b) (at + 2) c) (at + 3) d) (at + 4) e) (at + 5) f)
+stored-six w at a b c d e f h room =
+    stored-next (at + 5) f refl (omega arith) (omega arith)
+    (stored-next (at + 4) e refl (omega arith) (omega arith)
+    (stored-next (at + 3) d refl (omega arith) (omega arith)
+    (stored-next (at + 2) c refl (omega arith) (omega arith)
+    (stored-next (at + 1) b refl (omega arith) (omega arith)
+    (stored-next {at = at} at a (sym (add-zero at)) (omega arith) (omega arith)
+    (stored-none w at (a ∷ b ∷ c ∷ d ∷ e ∷ f ∷ []) h) refl) refl) refl) refl) refl) refl
+
+-- the numbers of the first editions, and of one more
+module _ (kind : Kind) where
+  pub edition-six : (e : Edition) → length (editionNumbers kind e) ≡ 6
+  edition-six e = go kind
+    where
+      go : (k : Kind) → length (editionNumbers k e) ≡ 6
+      go Kind.Synthesizer = refl
+      go Kind.Recognizer = refl
+
+  pub editions-length : (es : List Edition) → length (editionsNumbers kind es) ≡ length es * 6
+  editions-length [] = refl
+  editions-length (e ∷ es) =
+      omega (arith, length-append (editionNumbers kind e) (editionsNumbers kind es), edition-six e, editions-length es)
+
+  past-one : (e : Edition) (es : List Edition) (n : ℕ)
+      → take (suc n * 6) (editionsNumbers kind (e ∷ es)) ≡ editionNumbers kind e ++ take (n * 6) (editionsNumbers kind es)
+  past-one e es n =
+      let size = edition-six e in
+      let m : suc n * 6 ≡ length (editionNumbers kind e) + n * 6 = omega arith in
+      ap (λ (k : ℕ). take k (editionsNumbers kind (e ∷ es))) m
+      ∙ take-append-add (editionNumbers kind e) (editionsNumbers kind es) (n * 6)
+
+  first-editions : (n : ℕ) (es : List Edition) → take (n * 6) (editionsNumbers kind es) ≡ editionsNumbers kind (take n es)
+  first-editions zero es = refl
+  first-editions (suc n) [] = take-nil (suc n * 6)
+  first-editions (suc n) (e ∷ es) = past-one e es n ∙ ap (λ (l : List ℕ). editionNumbers kind e ++ l) (first-editions n es)
+
+  next-edition : (i : ℕ) (es : List Edition) → i < length es
+      → take (i * 6) (editionsNumbers kind es) ++ editionNumbers kind (getD es i unset) ≡ take (suc i * 6) (editionsNumbers kind es)
+  next-edition i [] h = absurd (omega arith)
+  next-edition zero (e ∷ es) h = sym (past-one e es zero ∙ append-nil (editionNumbers kind e))
+  next-edition (suc i) (e ∷ es) h =
+      ap (λ (l : List ℕ). l ++ editionNumbers kind (getD es i unset)) (past-one e es i)
+      ∙ append-assoc (editionNumbers kind e) (take (i * 6) (editionsNumbers kind es)) (editionNumbers kind (getD es i unset))
+      ∙ ap (λ (l : List ℕ). editionNumbers kind e ++ l) (next-edition i es (omega arith))
+      ∙ sym (past-one e es (suc i))
+
+  -- the same behind their count
+  pub edition-more : {w ws after : List ℕ} (n : ℕ) (es : List Edition) {i : ℕ} → length es ≡ 4 → i < 4
+      → Stored w 64 (n ∷ editionsNumbers kind es) (i * 6 + 1) ws
+      → Stored ws (65 + i * 6) (editionNumbers kind (getD es i unset)) 6 after
+      → Stored w 64 (n ∷ editionsNumbers kind es) ((i + 1) * 6 + 1) after
+  edition-more {w} {ws} {after} n es {i} m h s t =
+      let e : Edition = getD es i unset in
+      let place : 65 + i * 6 ≡ 64 + (i * 6 + 1) = omega arith in
+      let size : i * 6 + 1 ≤ suc (length (editionsNumbers kind es)) = omega (arith, editions-length es) in
+      let next : i * 6 + 1 + 6 ≡ (i + 1) * 6 + 1 = omega arith in
+      let behind : suc (suc i * 6) ≡ i * 6 + 1 + 6 = omega arith in
+      let whole : take 6 (editionNumbers kind e) ≡ editionNumbers kind e = take-all 6 (editionNumbers kind e) (omega (arith, edition-six e)) in
+      let six : take (i * 6 + 1) (n ∷ editionsNumbers kind es) ++ take 6 (editionNumbers kind e) ≡ take (i * 6 + 1 + 6) (n ∷ editionsNumbers kind es) =
+      ap₂ (λ (k : ℕ) (l : List ℕ). take k (n ∷ editionsNumbers kind es) ++ l) (add-one (i * 6)) whole
+      ∙ ap (λ (l : List ℕ). n ∷ l) (next-edition i es (omega arith))
+      ∙ ap (λ (k : ℕ). take k (n ∷ editionsNumbers kind es)) behind in
+      rw next at (stored-then (omega arith) size s (rw place at t) six)
 
 abbrev zeros : ℕ → List ℕ
 zeros n = replicate n 0
@@ -99,28 +202,28 @@ up-to-four : (a b c d m k : ℕ) (l : List ℕ) → m ≡ suc (suc (suc (suc k))
 up-to-four a b c d m k l e = ap (λ (n : ℕ). take n (a ∷ b ∷ c ∷ d ∷ l)) e
 
 -- what a loop leaves that stores from m on, behind a list of n and zeros
-module _ (a b c d : ℕ) (p : List ℕ) (n : ℕ) (e : length p ≡ n) (m : ℕ) (h : n ≤ m) (room : m ≤ 60) where
-  front : take m (p ++ zeros (60 - n)) ≡ p ++ zeros (m - n)
+module _ (a b c d : ℕ) (p : List ℕ) (n : ℕ) (e : length p ≡ n) (m : ℕ) (h : n ≤ m) (room : m ≤ 85) where
+  front : take m (p ++ zeros (85 - n)) ≡ p ++ zeros (m - n)
   front =
       let k : length p + (m - n) ≡ m = omega arith in
-      ap (λ (m : ℕ). take m (p ++ zeros (60 - n))) (sym k)
-      ∙ take-append-add p (zeros (60 - n)) (m - n)
-      ∙ ap (λ (l : List ℕ). p ++ l) (take-zeros (60 - n) (m - n) (omega arith))
+      ap (λ (m : ℕ). take m (p ++ zeros (85 - n))) (sym k)
+      ∙ take-append-add p (zeros (85 - n)) (m - n)
+      ∙ ap (λ (l : List ℕ). p ++ l) (take-zeros (85 - n) (m - n) (omega arith))
 
-  behind : (k : ℕ) → drop (m + k) (p ++ zeros (60 - n)) ≡ zeros (60 - (m + k))
+  behind : (k : ℕ) → drop (m + k) (p ++ zeros (85 - n)) ≡ zeros (85 - (m + k))
   behind k =
       let f : length p + (m - n + k) ≡ m + k = omega arith in
-      let z : 60 - n - (m - n + k) ≡ 60 - (m + k) = omega arith in
-      ap (λ (m : ℕ). drop m (p ++ zeros (60 - n))) (sym f)
-      ∙ drop-append-add p (zeros (60 - n)) (m - n + k)
-      ∙ drop-zeros (60 - n) (m - n + k)
+      let z : 85 - n - (m - n + k) ≡ 85 - (m + k) = omega arith in
+      ap (λ (m : ℕ). drop m (p ++ zeros (85 - n))) (sym f)
+      ∙ drop-append-add p (zeros (85 - n)) (m - n + k)
+      ∙ drop-zeros (85 - n) (m - n + k)
       ∙ ap zeros z
 
-  left-by : (l : List ℕ) (k : ℕ) → paste (a ∷ b ∷ c ∷ d ∷ p ++ zeros (60 - n)) (4 + m) l k ≡ a ∷ b ∷ c ∷ d ∷ p ++ zeros (m - n) ++ take k l ++ zeros (60 - (m + k))
+  left-by : (l : List ℕ) (k : ℕ) → paste (a ∷ b ∷ c ∷ d ∷ p ++ zeros (85 - n)) (4 + m) l k ≡ a ∷ b ∷ c ∷ d ∷ p ++ zeros (m - n) ++ take k l ++ zeros (85 - (m + k))
   left-by l k =
       ap₂ (λ (f r : List ℕ). f ++ take k l ++ r)
-      (up-to-four a b c d (4 + m) m (p ++ zeros (60 - n)) (omega arith) ∙ ap (λ (f : List ℕ). a ∷ b ∷ c ∷ d ∷ f) front)
-      (past-four a b c d (4 + m + k) (m + k) (p ++ zeros (60 - n)) (omega arith) ∙ behind k)
+      (up-to-four a b c d (4 + m) m (p ++ zeros (85 - n)) (omega arith) ∙ ap (λ (f : List ℕ). a ∷ b ∷ c ∷ d ∷ f) front)
+      (past-four a b c d (4 + m + k) (m + k) (p ++ zeros (85 - n)) (omega arith) ∙ behind k)
 
 -- what the loop over the entries leaves, and that over the thresholds
 module _ (a b c d : ℕ) (queue : List Entry) (numbers levels : List ℕ) (n : ℕ) (is : take n (entriesOf numbers levels) ≡ queue)
@@ -128,29 +231,29 @@ module _ (a b c d : ℕ) (queue : List Entry) (numbers levels : List ℕ) (n : �
   numbered : take n (map stored numbers) ≡ map entryNumber queue
   numbered = sym (entry-numbers n numbers levels many) ∙ ap (map entryNumber) is
 
-  leveled : take n levels ≡ thresholds queue
+  leveled : take n (map levelIn levels) ≡ thresholds queue
   leveled = sym (entry-thresholds n numbers levels many) ∙ ap thresholds is
 
-  entries-left : paste (a ∷ b ∷ c ∷ d ∷ zeros 60) 4 (map stored numbers) n ≡ a ∷ b ∷ c ∷ d ∷ map entryNumber queue ++ zeros (60 - n)
+  entries-left : paste (a ∷ b ∷ c ∷ d ∷ zeros 85) 4 (map stored numbers) n ≡ a ∷ b ∷ c ∷ d ∷ map entryNumber queue ++ zeros (85 - n)
   entries-left =
       left-by a b c d [] 0 refl 0 (omega arith) (omega arith) (map stored numbers) n
-      ∙ ap₂ (λ (l : List ℕ) (m : ℕ). a ∷ b ∷ c ∷ d ∷ l ++ zeros (60 - m)) numbered (zero-add n)
+      ∙ ap₂ (λ (l : List ℕ) (m : ℕ). a ∷ b ∷ c ∷ d ∷ l ++ zeros (85 - m)) numbered (zero-add n)
 
-  pub queue-saved : (kind : Kind) → n ≤ most kind → {w ws : List ℕ} → Stored (a ∷ b ∷ c ∷ d ∷ zeros 60) 4 (map stored numbers) n w
-      → Stored w 12 levels (thresholdCount kind n) ws → ws ≡ a ∷ b ∷ c ∷ d ∷ queueNumbers kind queue ++ zeros (60 - length (queueNumbers kind queue))
+  pub queue-saved : (kind : Kind) → n ≤ most kind → {w ws : List ℕ} → Stored (a ∷ b ∷ c ∷ d ∷ zeros 85) 4 (map stored numbers) n w
+      → Stored w 12 (map levelIn levels) (thresholdCount kind n) ws → ws ≡ a ∷ b ∷ c ∷ d ∷ queueNumbers kind queue ++ zeros (85 - length (queueNumbers kind queue))
   queue-saved Kind.Synthesizer few {w} {ws} s t =
       t .pasted
-      ∙ sym (paste-zero w 12 levels)
+      ∙ sym (paste-zero w 12 (map levelIn levels))
       ∙ s .pasted
       ∙ entries-left
-      ∙ ap (λ (m : ℕ). a ∷ b ∷ c ∷ d ∷ map entryNumber queue ++ zeros (60 - m)) (sym (length-map queue entryNumber ∙ count))
+      ∙ ap (λ (m : ℕ). a ∷ b ∷ c ∷ d ∷ map entryNumber queue ++ zeros (85 - m)) (sym (length-map queue entryNumber ∙ count))
   queue-saved Kind.Recognizer few {w} {ws} s t =
       let size : length (map entryNumber queue) ≡ n = length-map queue entryNumber ∙ count in
       let eight : 8 + n ≡ length (padded 8 (map entryNumber queue) ++ thresholds queue) = simp (length-append, length-map, length-replicate) (omega (arith, few, count)) in
       t .pasted
-      ∙ ap (λ (w : List ℕ). paste w 12 levels n) (s .pasted ∙ entries-left)
-      ∙ left-by a b c d (map entryNumber queue) n size 8 few (omega arith) levels n
-      ∙ (λ i. a ∷ b ∷ c ∷ d ∷ map entryNumber queue ++ zeros (8 - sym size i) ++ leveled i ++ zeros (60 - eight i))
+      ∙ ap (λ (w : List ℕ). paste w 12 (map levelIn levels) n) (s .pasted ∙ entries-left)
+      ∙ left-by a b c d (map entryNumber queue) n size 8 few (omega arith) (map levelIn levels) n
+      ∙ (λ i. a ∷ b ∷ c ∷ d ∷ map entryNumber queue ++ zeros (8 - sym size i) ++ leveled i ++ zeros (85 - eight i))
 
 pub queue-16 : (queue : List Entry) (kind : Kind) → length queue ≤ most kind → length (queueNumbers kind queue) ≤ 16
 queue-16 queue Kind.Synthesizer few = simp length-map (omega (arith, few))
@@ -164,16 +267,33 @@ pub thresholds-8 : (kind : Kind) (n : ℕ) → n ≤ most kind → thresholdCoun
 thresholds-8 Kind.Synthesizer n few = omega arith
 thresholds-8 Kind.Recognizer n few = few
 
--- what the loop over the name leaves behind them
-pub name-saved : (a b c d : ℕ) (q name : List ℕ) (k : ℕ) → length q ≤ 16 → {w ws : List ℕ} → w ≡ a ∷ b ∷ c ∷ d ∷ q ++ zeros (60 - length q)
-    → Stored w 20 name k ws → ws ≡ a ∷ b ∷ c ∷ d ∷ padded 16 q ++ (take k name ++ zeros (44 - k))
-name-saved a b c d q name k few e s =
-    let z : 60 - (16 + k) ≡ 44 - k = omega arith in
-    s .pasted
-    ∙ ap (λ (w : List ℕ). paste w 20 name k) e
-    ∙ left-by a b c d q (length q) refl 16 few (omega arith) name k
-    ∙ ap (λ (m : ℕ). a ∷ b ∷ c ∷ d ∷ padded 16 q ++ take k name ++ zeros m) z
-    ∙ append-assoc (a ∷ b ∷ c ∷ d ∷ padded 16 q) (take k name) (zeros (44 - k))
+-- what the loops over the name and the editions leave behind them
+module _ (a b c d : ℕ) (q name : List ℕ) (k : ℕ) (few : length q ≤ 16) (size : length (take k name) ≡ k) (short : k ≤ 44) where
+  abbrev pub named : List ℕ
+  named = padded 16 q ++ take k name
+
+  named-length : length named ≡ 16 + k
+  named-length = simp (length-append, length-replicate) (omega (arith, few, size))
+
+  pub name-saved : {w ws : List ℕ} → w ≡ a ∷ b ∷ c ∷ d ∷ q ++ zeros (85 - length q) → Stored w 20 name k ws
+      → ws ≡ a ∷ b ∷ c ∷ d ∷ named ++ zeros (85 - (16 + k))
+  name-saved e s =
+      s .pasted
+      ∙ ap (λ (w : List ℕ). paste w 20 name k) e
+      ∙ left-by a b c d q (length q) refl 16 few (omega arith) name k
+
+  pub editions-saved : (n : ℕ) (es : List ℕ) (m : ℕ) → {w ws : List ℕ} → w ≡ a ∷ b ∷ c ∷ d ∷ named ++ zeros (85 - (16 + k))
+      → Stored w 64 (n ∷ es) (m + 1) ws
+      → ws ≡ a ∷ b ∷ c ∷ d ∷ padded 16 q ++ (take k name ++ zeros (44 - k)) ++ (n ∷ take m es ++ zeros (24 - m))
+  editions-saved n es m e s =
+      let y : 60 - (16 + k) ≡ 44 - k = omega arith in
+      let z : 85 - (60 + (m + 1)) ≡ 24 - m = omega arith in
+      s .pasted
+      ∙ ap (λ (w : List ℕ). paste w 64 (n ∷ es) (m + 1)) e
+      ∙ left-by a b c d named (16 + k) named-length 60 (omega arith) (omega arith) (n ∷ es) (m + 1)
+      ∙ (λ i. a ∷ b ∷ c ∷ d ∷ named ++ zeros (y i) ++ take (add-one m i) (n ∷ es) ++ zeros (z i))
+      ∙ append-assoc (a ∷ b ∷ c ∷ d ∷ named ++ zeros (44 - k)) (n ∷ take m es) (zeros (24 - m))
+      ∙ ap (λ (l : List ℕ). a ∷ b ∷ c ∷ d ∷ l ++ (n ∷ take m es ++ zeros (24 - m))) (append-assoc (padded 16 q) (take k name) (zeros (44 - k)))
 
 -- the numbers of a channel, by its parts
 module _ (c : Channel) (vs : List Val) (good : Is the-row c vs) where
@@ -184,6 +304,9 @@ module _ (c : Channel) (vs : List Val) (good : Is the-row c vs) where
   pub sized : length (nameOf (c .name)) ≡ c .name .size
   sized = search size-is
 
+  pub editioned : length (editionsOf (c .editions)) ≡ c .editions .count
+  editioned = search E.count-is
+
   many : length (c .queue .thresholds) ≡ length (c .queue .numbers)
   many = search as-many
 
@@ -193,21 +316,39 @@ module _ (c : Channel) (vs : List Val) (good : Is the-row c vs) where
   abbrev size : ℕ
   size = c .name .size
 
+  abbrev made : ℕ
+  made = c .editions .count
+
   abbrev ours : Kind
   ours = kindBy (nameOf (c .name))
 
-  pub saved-numbers : (last : LastId) → count ≤ most ours → size ≤ 44 → {a b : ℕ} {w x ws : List ℕ}
-      → Stored (a ∷ b ∷ count ∷ size ∷ zeros 60) 4 (map stored (c .queue .numbers)) count w
-      → Stored w 12 (c .queue .thresholds) (thresholdCount ours count) x → Stored x 20 (c .name .bytes) size ws
+  pub saved-numbers : (last : LastId) → count ≤ most ours → size ≤ 44 → made ≤ 4 → {a b : ℕ} {w x y ws : List ℕ}
+      → Stored (a ∷ b ∷ count ∷ size ∷ zeros 85) 4 (map stored (c .queue .numbers)) count w
+      → Stored w 12 (map levelIn (c .queue .thresholds)) (thresholdCount ours count) x → Stored x 20 (c .name .bytes) size y
+      → Stored y 64 (made ∷ editionsNumbers ours (c .editions .list)) (made * 6 + 1) ws
       → a ≡ stateNumber (c .state) → b ≡ firstAbove last → ws ≡ numbersOf (view last c)
   unfolding numbersOf
-  saved-numbers last few short {a} {b} p t r s l =
+  saved-numbers last few short fewer {a} {b} p t r u s l =
       let within-16 : count ≤ 16 = omega (arith, few, most-16 ours) in
       let is : take count (entriesIn (c .queue)) ≡ listOf (c .queue) = sym (queue-within (c .queue) within-16) in
       let queued = queue-saved a b count size (listOf (c .queue)) (c .queue .numbers) (c .queue .thresholds) count is many counted ours few p t in
       let room = queue-16 (listOf (c .queue)) ours (rw counted few) in
-      name-saved a b count size (queueNumbers ours (listOf (c .queue))) (c .name .bytes) size room queued r
-      ∙ (λ i. s i ∷ l i ∷ sym counted i ∷ sym sized i ∷ padded 16 (queueNumbers ours (listOf (c .queue))) ++ named i)
+      let q : List ℕ = queueNumbers ours (listOf (c .queue)) in
+      let long : length (take size (c .name .bytes)) ≡ size = ap length (sym (name-within (c .name) short)) ∙ sized in
+      editions-saved a b count size q (c .name .bytes) size room long short made (editionsNumbers ours (c .editions .list)) (made * 6)
+      (name-saved a b count size q (c .name .bytes) size room long short queued r) u
+      ∙ (λ i. s i ∷ l i ∷ sym counted i ∷ sym sized i ∷ padded 16 q ++ named-back i ++ (sym editioned i ∷ told i))
     where
-      named : take size (c .name .bytes) ++ zeros (44 - size) ≡ padded 44 (nameOf (c .name))
-      named = ap₂ (λ (l : List ℕ) (k : ℕ). l ++ zeros (44 - k)) (sym (name-within (c .name) short)) (sym sized)
+      named-back : take size (c .name .bytes) ++ zeros (44 - size) ≡ padded 44 (nameOf (c .name))
+      named-back = ap₂ (λ (l : List ℕ) (k : ℕ). l ++ zeros (44 - k)) (sym (name-within (c .name) short)) (sym sized)
+
+      told : take (made * 6) (editionsNumbers ours (c .editions .list)) ++ zeros (24 - made * 6)
+          ≡ padded 24 (editionsNumbers ours (editionsOf (c .editions)))
+      told =
+          let size : length (editionsNumbers ours (editionsOf (c .editions))) ≡ made * 6 =
+          editions-length ours (editionsOf (c .editions)) ∙ ap (λ (n : ℕ). n * 6) editioned in
+          ap₂ (λ (l : List ℕ) (k : ℕ). l ++ zeros (24 - k))
+          (first-editions ours made (c .editions .list) ∙ ap (editionsNumbers ours) (sym kept)) (sym size)
+        where
+          kept : editionsOf (c .editions) ≡ take made (c .editions .list)
+          kept = search E.within

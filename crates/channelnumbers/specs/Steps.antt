@@ -1,10 +1,12 @@
--- What the steps of saving leave of the 64 numbers.
+-- What the steps of saving leave of the 89 numbers.
 use Prim.Native.Nat.{ℕ, _%_}
 use mathlib.Core.Path.{_≡_}
-use mathlib.Core.List.{List}
+use mathlib.Core.List.{List, [], _∷_}
 use lib.ListN.{length}
 use lib.Seq.{paste}
 use Rattle.answer.specs.declared.Kind.{Kind}
+use Rattle.synth.specs.declared.Setting.{Setting}
+use Rattle.channelnumbers.specs.Numbers.{sortNumber, valueNumber}
 
 -- how many thresholds are stored of so many entries: none of a synthesizer's
 abbrev pub thresholdCount : Kind → ℕ → ℕ
@@ -15,8 +17,12 @@ thresholdCount Kind.Recognizer n = n
 abbrev pub stored : ℕ → ℕ
 stored n = n % 8589934592
 
+-- the numbers of three settings
+abbrev pub three : Setting → Setting → Setting → List ℕ
+three a b c = sortNumber a ∷ valueNumber a ∷ sortNumber b ∷ valueNumber b ∷ sortNumber c ∷ valueNumber c ∷ []
+
 -- the first n of l stand in ws, from `at` on, in place of what stood in w
 pub record Stored (w : List ℕ) (at : ℕ) (l : List ℕ) (n : ℕ) (ws : List ℕ) : Type 0 where
-  pub long : length w ≡ 64
-  pub kept : length ws ≡ 64
+  pub long : length w ≡ 89
+  pub kept : length ws ≡ 89
   pub pasted : ws ≡ paste w at l n

@@ -1,11 +1,9 @@
 -- What a client message comes to, one law for each way out. Assumes nothing.
-use Prim.Native.Nat.{ℕ}
-use mathlib.Core.Path.{_≡_, sym, ap, subst, _∙_}
+use Prim.Native.Nat.{ℕ, _≤_}
+use mathlib.Core.Path.{_≡_, refl, sym, ap, ap₂, subst, _∙_}
 use mathlib.Core.Bool.{true}
 use mathlib.Core.List.{List, append-nil}
 use lib.ListN.{length, take}
-use mir.Val.{Val}
-use denote.Laws.{Is}
 use Rattle.framing.specs.Framing.{framing, frameLength}
 use Rattle.framing.specs.declared.Framing.{Framing}
 use Rattle.framing.specs.declared.Framing.the-variants.{Frame}
@@ -20,26 +18,59 @@ use Rattle.message.proofs.Parts.{reading-within}
 use Rattle.startline.specs.StartLine.{startOf}
 use Rattle.startline.specs.declared.Start.{Start}
 use Rattle.answer.specs.Written.{written, writtenAll}
-use Rattle.answer.specs.Answers.{response}
-use Rattle.synth.specs.Channel.{View, sound}
+use Rattle.answer.specs.Answers.{responseOf}
+use Rattle.synth.specs.Kinds.{kindOf}
+use Rattle.synth.specs.Channel.{View, kind, wellNamed, sound}
 use Rattle.synth.specs.Calls.{input, refuse, answer, call}
 use Rattle.synth.specs.States as S
-use Rattle.queue.proofs.Queues.{length-of}
-use Rattle.outcomes.specs.Outcomes.{Makes}
 use Rattle.outcomes.specs.declared.Outcome.{Outcome}
-use Rattle.client.specs.Turns.{frameTurn}
-use Rattle.judgement.specs.declared.Judged.{Judged}
-use Rattle.judgement.proofs.Judged.{the-row}
-
-pub judged-16 : (j : Judged) (vs : List Val) → Is the-row j vs → length (j .outcome .listed .ids) ≡ 16
-judged-16 j vs good = search length-of
+use Rattle.synth.specs.Settings.{isEditionOf, newest}
+use Rattle.synth.specs.declared.Edition.{Edition}
+use Rattle.synth.specs.declared.LastId.{LastId}
+use Rattle.synth.proofs.Channels.{sound-facts}
+use Rattle.synth.proofs.Editions.{newest-own}
+use Rattle.queue.specs.Queue.{listOf}
+use Rattle.channelnames.specs.Names.{nameOf}
+use Rattle.channel.specs.Channel.{view, viewOn, currentOf}
+use Rattle.channel.specs.declared.Channel.{Channel}
+use Rattle.channel.specs.declared.Current.{Current}
+use Rattle.calls.proofs.Leaving.{queue-short}
+use Rattle.params.specs.Doing.{saidBy, Does}
+use Rattle.params.specs.declared.Effect.{Effect}
+use Rattle.client.specs.Turns.{frameTurn, listing, settingsTold}
 
 -- one message written is its bytes
-pub one-written : (v : View) (o : Outcome) (d : S.Outcome) {name : List ℕ} → v .name ≡ name → Makes v o d
-    → writtenAll (d .says) ≡ written (response name (o .answer .id) (o .answer .status .code) (o .answer .state) (take (o .listed .count) (o .listed .ids)))
+pub said-written : {v : View} {o : Outcome} {x : Effect} {d : S.Outcome} → Does v o x d → writtenAll (d .says) ≡ written (saidBy x v o)
 unfolding writtenAll
-one-written v o d n m = ap writtenAll (sym (m .says)) ∙ append-nil _
-    ∙ ap (λ (l : List ℕ). written (response l (o .answer .id) (o .answer .status .code) (o .answer .state) (take (o .listed .count) (o .listed .ids)))) n
+said-written m = ap writtenAll (sym (m .says)) ∙ append-nil _
+
+-- under that name, with the ids that it lists, where nothing is told
+pub listed-written : {v : View} {o : Outcome} {x : Effect} {d : S.Outcome} (name : List ℕ) → v .name ≡ name
+    → saidBy x v o ≡ responseOf (v .name) (o .answer) (take (o .listed .count) (o .listed .ids)) → Does v o x d
+    → listing name o ≡ writtenAll (d .says)
+listed-written {v} {o} {x} name n e m =
+    sym (said-written m ∙ ap written e
+    ∙ ap (λ (l : List ℕ). written (responseOf l (o .answer) (take (o .listed .count) (o .listed .ids)))) n)
+
+-- with the settings that it tells
+pub told-written : {v : View} {o : Outcome} {x : Effect} {d : S.Outcome} (name : List ℕ) (set : Edition) (asked : ℕ)
+    → v .name ≡ name → newest (v .editions) ≡ set → x ≡ Effect.Tell asked → Does v o x d
+    → settingsTold name set (o .answer) asked ≡ writtenAll (d .says)
+told-written {v} {o} {x} name set asked n s e m =
+    sym (said-written m ∙ ap (λ (x : Effect). written (saidBy x v o)) e
+    ∙ ap₂ (λ (l : List ℕ) (e : Edition). settingsTold l e (o .answer) asked) n s)
+
+-- what holds on a sound channel as it is at present holds on the channel
+pub on-channel : (last : LastId) (c : Channel) (now : Current) (J : View → Type 0) → now ≡ currentOf c → sound (view last c) ≡ true
+    → (wellNamed (nameOf (now .name)) ≡ true → length (listOf (now .queue)) ≤ 16
+    → isEditionOf (kindOf (nameOf (now .name))) (now .set) ≡ true → (es : List Edition) → newest es ≡ now .set → J (viewOn last now es))
+    → J (view last c)
+on-channel last c now J e s h =
+    let v : View = view last c in
+    let f = sound-facts v s in
+    subst (λ (x : Current). (wellNamed (nameOf (x .name)) ≡ true → length (listOf (x .queue)) ≤ 16
+    → isEditionOf (kindOf (nameOf (x .name))) (x .set) ≡ true → (es : List Edition) → newest es ≡ x .set → J (viewOn last x es))) e h
+    (f .named) (queue-short v s) (newest-own (kind v) (v .editions) (f .editions-fit)) (v .editions) refl
 
 -- the start line that was read is in range
 pub in-range : (k : ℕ) (f : List ℕ) (start : Start) (at : ℕ) → started (startOf start) at ≡ startLine k f → InRange (startOf start)

@@ -7,12 +7,94 @@ ghost use Rattle.message.specs.Message.{InRange};
 ghost use Rattle.message.specs.StartLines.{startLine};
 ghost use Rattle.startline.specs.StartLine.{startOf};
 ghost use Rattle.synth.specs.Channel.{sound};
-ghost use Rattle.synth.specs.Calls.{input, deliver as delivered};
+ghost use Rattle.synth.specs.Settings.{newest};
+ghost use Rattle.synth.specs.Channel.{View, withQueue};
+ghost use Rattle.synth.specs.Calls.{input, deliver as delivering};
+ghost use Rattle.synth.specs.declared.LastId.{LastId};
+ghost use Rattle.answer.specs.Written.{writtenAll};
+ghost use Rattle.message.specs.declared.RequestState.the-variants.{Complete};
+ghost use Rattle.output.specs.Delivery.{counted, delivered};
+ghost use Rattle.queue.specs.Queue.{listOf};
+ghost use Rattle.channelnames.specs.Names.{nameOf};
+ghost use Rattle.params.specs.Doing.{Does, leftBy};
 ghost use Rattle.synth.specs.States as S;
 ghost use Rattle.channel.specs.Channel.{view};
 ghost use Rattle.judgement.specs.Judged.{Judges};
 ghost use Rattle.calls.specs.Promise.{Leaves, Promise};
-ghost use Rattle.client.specs.Turns.{lineTurn, frameTurn};
+ghost use Rattle.client.specs.Turns.{lineTurn, frameTurn, listing, settingsTold};
+
+// Writes the answer that lists ids under the name of a channel, or nothing where it is longer than the output.
+fn respond(name: channelnames::Name, o: outcomes::Outcome, out: &mut [u8]) -> output::Written
+    requires { ⌜ name .size ≤ 44 ⌝ }
+    requires { ⌜ o .listed .count ≤ 16 ⌝ }
+    ensures { λ r. ⌜ r ≡ counted (listing (nameOf name) o) (now (out .entry)) ⌝ }
+    ensures { λ _. ⌜ now (out .exit) ≡ delivered (listing (nameOf name) o) (now (out .entry)) ⌝ }
+{
+    let bytes = name.bytes;
+    let listed = o.listed;
+    let ids = listed.ids;
+    output::respond(out, &bytes[..name.size], o.answer, &ids[..listed.count])
+}
+
+// Writes the answer that tells the settings asked for, alike.
+fn tell(
+    name: channelnames::Name,
+    set: synth::Edition,
+    a: answer::Answer,
+    asked: u16,
+    out: &mut [u8],
+) -> output::Written
+    requires { ⌜ name .size ≤ 44 ⌝ }
+    ensures { λ r. ⌜ (a .state ≡ Complete → r ≡ counted (settingsTold (nameOf name) set a asked) (now (out .entry))) ⌝ }
+    ensures { λ _. ⌜ (a .state ≡ Complete
+        → now (out .exit) ≡ delivered (settingsTold (nameOf name) set a asked) (now (out .entry))) ⌝ }
+{
+    let fields = told::text(channelnames::kind(name), set, asked);
+    let text = fields.bytes;
+    let count = fields.count;
+    let bytes = name.bytes;
+    output::tell(out, &bytes[..name.size], a, &text[..count])
+}
+
+// Writes what a request that was judged is answered.
+fn write(c: channel::Current, done: params::Done, out: &mut [u8]) -> output::Written
+    requires { ⌜ c .name .size ≤ 44 ⌝ }
+    requires { ⌜ done .outcome .listed .count ≤ 16 ⌝ }
+    ensures { λ r. ⌜ ((v : View) (d : S.Outcome) → v .name ≡ nameOf (c .name) → newest (v .editions) ≡ c .set
+        → Does v (done .outcome) (done .effect) d
+        → (r ≡ counted (writtenAll (d .says)) (now (out .entry)))
+        × (now (out .exit) ≡ delivered (writtenAll (d .says)) (now (out .entry)))) ⌝ }
+{
+    let name = c.name;
+    let outcome = done.outcome;
+    let effect = done.effect;
+    match effect {
+        params::Effect::Nothing => respond(name, outcome, out),
+        params::Effect::Set(_) => respond(name, outcome, out),
+        params::Effect::Tell(asked) => {
+            let set = c.set;
+            let a = outcome.answer;
+            tell(name, set, a, asked, out)
+        }
+    }
+}
+
+// The channel after a request that was judged.
+fn after(c: channel::Channel, done: params::Done) -> channel::Channel
+    ensures { λ r. ⌜ ((last : LastId) → view last r ≡ leftBy (done .effect)
+        (withQueue (done .outcome .state) (listOf (done .outcome .queue)) (view last c))) ⌝ }
+{
+    let outcome = done.outcome;
+    let state = outcome.state;
+    let queue = outcome.queue;
+    let next = channel::with_queue(c, state, queue);
+    let effect = done.effect;
+    match effect {
+        params::Effect::Nothing => next,
+        params::Effect::Set(e) => channel::with_edition(next, e),
+        params::Effect::Tell(_) => next,
+    }
+}
 
 // The answer to a request that was judged, or 7 where it is longer than the output.
 fn deliver(
@@ -23,24 +105,17 @@ fn deliver(
     out: &mut [u8],
 ) -> calls::Handled
     requires { ⌜ sound (view last c) ≡ true ⌝ }
-    requires { ⌜ j .outcome .listed .count ≤ 16 ⌝ }
+    requires { ⌜ j .done .outcome .listed .count ≤ 16 ⌝ }
     ensures { λ r. ⌜ ((d : S.Outcome) → Judges (view last c) j d
-        → Leaves last c (delivered (view last c) consumed (length (now (out .entry))) d)
+        → Leaves last c (delivering (view last c) consumed (length (now (out .entry))) d)
         (now (out .entry)) r (now (out .exit))) ⌝ }
 {
-    let name = c.name;
-    let bytes = name.bytes;
-    let o = j.outcome;
-    let answer = o.answer;
-    let listed = o.listed;
-    let ids = listed.ids;
-    let w = output::respond(out, &bytes[..name.size], answer, &ids[..listed.count]);
+    let done = j.done;
+    let w = write(channel::present(c), done, out);
     match w {
         output::Written::TooLong => calls::refused(last, c, 7, 0), // the caller may lend more and try again
         output::Written::Count(written) => {
-            let state = o.state;
-            let queue = o.queue;
-            let next = channel::with_queue(c, state, queue);
+            let next = after(c, done);
             let seen = j.last;
             calls::Handled {
                 number: 0,
@@ -73,7 +148,8 @@ fn handle_line(
     let length = f.len();
     match start {
         startline::Start::Request(name, id) => {
-            let j = judgement::judge(last, c, f, at, major, minor, name, id as u32);
+            let now = channel::present(c);
+            let j = judgement::judge(last, now, f, at, major, minor, name, id as u32);
             deliver(last, c, length, j, out)
         }
         startline::Start::Response(_, _, _) => calls::refused(last, c, 6, length),

@@ -11,9 +11,10 @@ use lib.ListN.{length, set}
 use Rattle.lists.specs.Lists.{All}
 use Rattle.lists.proofs.Tests.{choose}
 use Rattle.messagenumbers.specs.Layout.{handed}
+use Rattle.answer.specs.Written.{writtenAll}
 use Rattle.ledger.specs.Ledger.{Turn}
-use Rattle.synth.specs.Channel.{View, fresh, wellNamed, sound}
-use Rattle.synth.specs.Calls.{Lent, input, report, Reply, call}
+use Rattle.synth.specs.Channel.{View, fresh, wellNamed, shaped, sound}
+use Rattle.synth.specs.Calls.{Lent, input, report, back, Reply, call}
 use Rattle.channelnumbers.specs.Numbers.{numbersOf, viewOf}
 use Rattle.klarvesimo.specs.Face.{CallFace, keeping, turnFace, callOn, callFace}
 use Rattle.demands.specs.Demands.{Line, table, firstDue, outcome, exact, stated}
@@ -42,7 +43,7 @@ module _ (answer out : List ℕ) where
   handed-fits e = rw (e, handed)
 
 pub nameless : sound (fresh []) ≡ false
-nameless = unfold sound wellNamed in refl
+nameless = unfold sound shaped wellNamed in refl
 
 -- a line that is due leaves all that was lent as it was; where none is, the outcome
 abbrev pub lineFace : Option Line → View → List ℕ → Lent → List ℕ → CallFace
@@ -77,6 +78,7 @@ no-channel : (ws : List ℕ) (lent : Lent) (out : List ℕ)
 unfolding table
 no-channel ws (input s) out = rw (nameless, table)
 no-channel ws (report cause score) out = rw (nameless, table)
+no-channel ws (back n) out = rw (nameless, table)
 
 call-on : (o : Option View) (ws : List ℕ) (lent : Lent) (out : List ℕ)
     → callOn o ws lent out ≡ lineFace (firstDue (table (seenAs o) lent (length out))) (seenAs o) ws lent out
@@ -90,7 +92,7 @@ pub call-by-table : (ws : List ℕ) (lent : Lent) (out : List ℕ)
 unfolding callFace
 call-by-table ws lent out = call-on (viewOf ws) ws lent out
 
--- a report consumes nothing, whichever line answers
+-- a report and a going back consume nothing, whichever line answers
 abbrev ConsumesNone : Option Line → Type 0
 ConsumesNone none = Unit {0}
 ConsumesNone (some l) = l .consumed ≡ 0
@@ -99,15 +101,36 @@ first-due : (ls : List Line) → All (λ (l : Line). l .consumed ≡ 0) ls → C
 first-due [] h = tt
 first-due (l ∷ ls) h = choose ConsumesNone (l .due) (λ _. h .0) (λ _. first-due ls (h .1))
 
-line-consumes : (o : Option Line) (v : View) (ws : List ℕ) (cause : ℕ) (score : Float) (out : List ℕ) → ConsumesNone o
-    → lineFace o v ws (report cause score) out .consumed ≡ 0
-line-consumes none v ws cause score out h = refl
-line-consumes (some l) v ws cause score out h = h
+module _ (v : View) (ws : List ℕ) (lent : Lent) (out : List ℕ) (none-stated : stated lent ≡ 0) where
+  line-consumes : (o : Option Line) → ConsumesNone o → lineFace o v ws lent out .consumed ≡ 0
+  line-consumes none h = none-stated
+  line-consumes (some l) h = h
 
-pub report-consumes-none : (ws : List ℕ) (cause : ℕ) (score : Float) (out : List ℕ) → callFace ws (report cause score) out .consumed ≡ 0
+module _ (ws : List ℕ) (lent : Lent) (out : List ℕ) (none-stated : stated lent ≡ 0) where
+  consumes-none : All (λ (l : Line). l .consumed ≡ 0) (table (channelIn ws) lent (length out))
+      → callFace ws lent out .consumed ≡ 0
+  consumes-none h =
+      let lines = table (channelIn ws) lent (length out) in
+      ap (λ (f : CallFace). f .consumed) (call-by-table ws lent out)
+      ∙ line-consumes (channelIn ws) ws lent out none-stated (firstDue lines) (first-due lines h)
+
+pub report-consumes-none : (ws : List ℕ) (cause : ℕ) (score : Float) (out : List ℕ)
+    → callFace ws (report cause score) out .consumed ≡ 0
 report-consumes-none ws cause score out =
+    consumes-none ws (report cause score) out refl (unfold table in (refl, (refl, (refl, (refl, (refl, tt))))))
+
+pub back-consumes-none : (ws : List ℕ) (n : ℕ) (out : List ℕ) → callFace ws (back n) out .consumed ≡ 0
+back-consumes-none ws n out = consumes-none ws (back n) out refl (unfold table in (refl, (refl, tt)))
+
+-- and a going back writes nothing
+line-writes : (o : Option Line) (v : View) (ws : List ℕ) (n : ℕ) (out : List ℕ)
+    → lineFace o v ws (back n) out .written ≡ 0
+unfolding writtenAll
+line-writes none v ws n out = refl
+line-writes (some l) v ws n out = refl
+
+pub back-writes-none : (ws : List ℕ) (n : ℕ) (out : List ℕ) → callFace ws (back n) out .written ≡ 0
+back-writes-none ws n out =
     let v = channelIn ws in
-    let lines = table v (report cause score) (length out) in
-    ap (λ (f : CallFace). f .consumed) (call-by-table ws (report cause score) out)
-    ∙ line-consumes (firstDue lines) v ws cause score out
-    (first-due lines (unfold table in (refl, (refl, (refl, (refl, (refl, tt)))))))
+    ap (λ (f : CallFace). f .written) (call-by-table ws (back n) out)
+    ∙ line-writes (firstDue (table v (back n) (length out))) v ws n out

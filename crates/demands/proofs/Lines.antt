@@ -18,11 +18,14 @@ use Rattle.message.specs.declared.Span.{Span}
 use Rattle.answer.specs.Written.{writtenAll}
 use Rattle.answer.specs.Answers.{causeNames}
 use Rattle.ledger.specs.Ledger.{Turn}
+use Rattle.synth.specs.Settings.{editionAt}
 use Rattle.synth.specs.Channel.{View, kind, sound}
 use Rattle.synth.specs.Request.{requestOf}
 use Rattle.synth.specs.States.{Outcome, judge, completed}
-use Rattle.synth.specs.Calls.{Lent, input, report, Reply, refuse, deliver, awaits, isNoScore, isNoCause, call}
+use Rattle.synth.specs.Calls.{Lent, input, report, back, Reply, refuse, deliver, awaits, isNoScore, isNoCause, call}
 use Rattle.synth.specs.declared.Entry.{Entry}
+use Rattle.synth.specs.declared.Edition.{Edition}
+use Rattle.synth.proofs.Theorems.GoingBack.{goes-back, twelve}
 use Rattle.demands.specs.Demands.{Line, ending, outcome, stated, table, firstDue}
 use Rattle.engine.proofs.Reports.{no-such-cause, no-number, nothing-awaited, ends, has-active}
 
@@ -40,6 +43,7 @@ module _ (v : View) (room : ℕ) where
   unfolding call table
   unsound (input s) e = rw (e, call, table) (refl, refl, λ y. absurd (false≢true (sym e ∙ y)))
   unsound (report cause score) e = rw (e, call, table) (refl, refl, λ y. absurd (false≢true (sym e ∙ y)))
+  unsound (back n) e = rw (e, call, table) (refl, refl, λ y. absurd (false≢true (sym e ∙ y)))
 
   module _ (sane : sound v ≡ true) where
     module _ (s : List ℕ) where
@@ -118,9 +122,16 @@ module _ (v : View) (room : ℕ) where
       by-cause true h = no-cause h
       by-cause false h = by-score h (isNoScore (kind v) score) refl
 
+    -- an edition of that number is kept, or none is
+    by-edition : (n : ℕ) (o : Option Edition) → editionAt n (v .editions) ≡ o → Tabled v (back n) room
+    unfolding table writtenAll
+    by-edition n none e = rw (sane, e, table) (twelve v sane room n e, refl, λ y. refl)
+    by-edition n (some x) e = rw (sane, e, table) (goes-back v sane room n x e)
+
     on-sound : (lent : Lent) → Tabled v lent room
     on-sound (input s) = message-tabled s
     on-sound (report cause score) = by-cause cause score (isNoCause (kind v) cause) refl
+    on-sound (back n) = by-edition n (editionAt n (v .editions)) refl
 
 pub tabled : (v : View) (lent : Lent) (room : ℕ) → Tabled v lent room
 tabled v lent room = go (sound v) refl

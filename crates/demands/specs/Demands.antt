@@ -1,5 +1,5 @@
--- Demands 1 and 3 of the code, over the clause that the contracts of `handle` and `report` promise: document 01, "Refusal numbers" and "How
--- tight the promises are", and document 02, K1.
+-- Demands 1 and 3 of the code, over the clause that the contracts of `handle`, `report` and `go_back` promise: document
+-- 01, "Refusal numbers" and "How tight the promises are", and document 02, K1 and K5.
 use Prim.Native.Nat.{ℕ}
 use mathlib.Core.Path.{_≡_}
 use mathlib.Core.Bool.{Bool, true, false, not}
@@ -17,13 +17,15 @@ use Rattle.message.specs.StartLines.{Started, started, startLine}
 use Rattle.message.specs.Reading.{readBytes}
 use Rattle.answer.specs.Written.{writtenAll}
 use Rattle.ledger.specs.Ledger.{Exchange, Balanced, Run}
-use Rattle.synth.specs.Channel.{View, kind, held, sound}
+use Rattle.synth.specs.Settings.{editionAt}
+use Rattle.synth.specs.Channel.{View, kind, withEdition, held, sound}
 use Rattle.synth.specs.Request.{requestOf}
 use Rattle.synth.specs.States.{Outcome, judge, completed}
-use Rattle.synth.specs.Calls.{Lent, input, report, Call, Reply, awaits, isNoScore, isNoCause, openChannel}
+use Rattle.synth.specs.Calls.{Lent, input, report, back, Call, Reply, awaits, isNoScore, isNoCause, openChannel}
 use Rattle.synth.specs.Demand3.{accepts, closes}
 use Rattle.synth.specs.declared.State.{State}
 use Rattle.synth.specs.declared.Entry.{Entry}
+use Rattle.synth.specs.declared.Edition.{Edition}
 use Rattle.synth.specs.declared.LastId.{LastId}
 use Rattle.synth.specs.declared.LastId.the-variants.{NoneSeen}
 use Rattle.channel.specs.Channel.{view, opened}
@@ -66,6 +68,11 @@ noRequest (message h (event name id state) fs) = true
 abbrev pub isSilent : State → Bool
 isSilent s = not (awaits s)
 
+-- 12: a number not kept
+abbrev pub isNotKept : Option Edition → Bool
+isNotKept none = true
+isNotKept (some e) = false
+
 -- nothing is said, and the channel stays as it was
 abbrev pub nothing : View → Outcome
 nothing v = record { says = []; next = v }
@@ -82,21 +89,29 @@ abbrev pub ending : View → List Entry → ℕ → Float → Outcome
 ending v [] cause score = nothing v
 ending v (e ∷ queue) cause score = completed (kind v) e queue v cause score
 
--- what a call that no line refuses says, and the channel afterwards
+-- going back to an edition makes a further one equal to it
+abbrev pub goneTo : Option Edition → View → View
+goneTo none v = v
+goneTo (some e) v = withEdition e v
+
+-- what a call that no line refuses says, and the channel afterwards; a going back says nothing
 abbrev pub outcome : View → Lent → Outcome
 outcome v (input s) = answering v (readBytes s)
 outcome v (report cause score) = ending v (v .queue) cause score
+outcome v (back n) = record { says = []; next = goneTo (editionAt n (v .editions)) v }
 
 -- the exact answer
 abbrev pub exact : View → Lent → List ℕ
 exact v lent = writtenAll (outcome v lent .says)
 
--- the stated length; a report: none
+-- the stated length; a report, a going back: none
 abbrev pub stated : Lent → ℕ
 stated (input s) = frameLength (framing s)
 stated (report cause score) = 0
+stated (back n) = 0
 
--- the refusals of a message and of a report, in the order in which they go before each other, where `room` bytes of output are lent
+-- the refusals of a message, of a report and of a going back, in the order in which they go before each other, where
+-- `room` bytes of output are lent
 unfoldable pub table : View → Lent → ℕ → List Line
 table v (input s) room =
     given 21 (not (sound v)) 0  -- the channel handed in is not sound
@@ -114,6 +129,10 @@ table v (report cause score) room =
     ∷ given 11 (isNoScore (kind v) score) 0  -- on a recognizer, a score that is no number
     ∷ given 8 (isSilent (v .state)) 0  -- engine report while nothing is speaking, or being recognized
     ∷ given 7 (ltb room (length (exact v (report cause score)))) 0
+    ∷ []
+table v (back n) room =
+    given 21 (not (sound v)) 0
+    ∷ given 12 (isNotKept (editionAt n (v .editions))) 0  -- a number not kept
     ∷ []
 
 -- the first line that is due, if any is
@@ -135,7 +154,8 @@ ByTable none last c lent out r after =
       out = answer ++ drop (length answer) out;
     }
 
--- Demand 1: whatever `handle` and `report` promise is what the first line of the table that is due says, and a sound channel stays sound
+-- Demand 1: whatever `handle`, `report` and `go_back` promise is what the first line of the table that is due says, and
+-- a sound channel stays sound
 abbrev pub Demand1OfTheCode : Type 0
 Demand1OfTheCode = (last : LastId) (c : Channel) (lent : Lent) (out : List ℕ) (r : Handled) (after : List ℕ) → Promise last c lent out r after
     → ByTable (firstDue (table (view last c) lent (length out))) last c lent out r after

@@ -1,5 +1,5 @@
 -- Demands 1 to 3 as C sees them: over what each function of include/klarvesimo.h returns, and leaves in every array
--- that is lent to it. Document 01, "Refusal numbers" and "How tight the promises are", and document 02, K1 and K3.
+-- lent to it. Document 01, "Refusal numbers" and "How tight the promises are", and document 02, K1, K3 and K5.
 use Prim.Native.Nat.{ℕ, _≤_}
 use mathlib.Core.Path.{_≡_}
 use mathlib.Core.Bool.{true, not}
@@ -23,17 +23,18 @@ use Rattle.messagenumbers.specs.Layout.{Face, messageNumbers}
 use Rattle.firmware.specs.Face.{frameFace, readFace, ReadCall, called}
 use Rattle.ledger.specs.Ledger.{Exchange, Balanced, Run, Turn, after, trace, accepted, closed}
 use Rattle.synth.specs.Channel.{View, fresh, wellNamed, sound, held}
-use Rattle.synth.specs.Calls.{Lent, input, report, Call, Reply}
+use Rattle.synth.specs.Calls.{Lent, input, report, back, Call, Reply}
 use Rattle.synth.specs.Demand3.{accepts, closes}
 use Rattle.channelnumbers.specs.Numbers.{numbersOf, viewOf}
-use Rattle.klarvesimo.specs.Face.{OpenFace, openFace, callFace, heldFace}
+use Rattle.klarvesimo.specs.Face.{OpenFace, openFace, callFace, BackFace, backFace, heldFace}
 use Rattle.klarvesimo.specs.Face.{HandleCall, counted, ReportCall, reported, HeldCall, listed}
 use Rattle.demands.specs.Demands.{Line, given, malformedIn, table, firstDue, outcome, exact, stated}
 
--- the functions that get a channel's 64 numbers, with all else that is lent to them
+-- the functions that get a channel's 89 numbers, with all else that is lent to them
 pub data OnChannel : Type 0 where
   handles : (s out counts : List ℕ) → OnChannel  -- klarvesimo_handle
   reports : (cause : ℕ) (score : Float) (out written : List ℕ) → OnChannel  -- klarvesimo_report
+  goes : (number : ℕ) → OnChannel  -- klarvesimo_back
   lists : (ids count : List ℕ) → OnChannel  -- klarvesimo_held
 
 -- a call of the C face, with all that is lent to it; klarvesimo_open does not look at the numbers that it sets
@@ -52,6 +53,7 @@ Places (reads s out consumed) = length consumed ≡ 1
 Places (asks s id) = length id ≡ 1
 Places (on ws (handles s out counts)) = length counts ≡ 2
 Places (on ws (reports cause score out written)) = length written ≡ 1
+Places (on ws (goes number)) = Unit {0}
 Places (on ws (lists ids count)) = length count ≡ 1
 
 -- the number returned, and each lent array that can change
@@ -62,6 +64,7 @@ Returned (reads s out consumed) = ReadCall
 Returned (asks s id) = Told
 Returned (on ws (handles s out counts)) = HandleCall
 Returned (on ws (reports cause score out written)) = ReportCall
+Returned (on ws (goes number)) = BackFace
 Returned (on ws (lists ids count)) = HeldCall
 
 -- what the contract of each function says that it returns and leaves: the right side of its `ensures`
@@ -72,6 +75,7 @@ returned (reads s out consumed) = called consumed (readFace s out)
 returned (asks s id) = whoseFace s id
 returned (on ws (handles s out counts)) = counted counts (callFace ws (input s) out)
 returned (on ws (reports cause score out written)) = reported written (callFace ws (report cause score) out)
+returned (on ws (goes number)) = backFace ws number
 returned (on ws (lists ids count)) = listed count (heldFace ws ids)
 
 abbrev pub seenAs : Option View → View
@@ -132,6 +136,7 @@ refusals (asks s id) =
     ∷ []
 refusals (on ws (handles s out counts)) = table (channelIn ws) (input s) (length out)  -- 21, 1 to 6, 7
 refusals (on ws (reports cause score out written)) = table (channelIn ws) (report cause score) (length out)  -- 21, 9, 11, 8, 7
+refusals (on ws (goes number)) = table (channelIn ws) (back number) 0  -- 21, 12
 refusals (on ws (lists ids count)) =
     given 21 (not (sound (channelIn ws))) 0
     ∷ given 7 (ltb (length ids) (length (held (channelIn ws)))) 0
@@ -151,6 +156,7 @@ refusedBy l (asks s id) = record { number = l .number; id = id }
 refusedBy l (on ws (handles s out counts)) =
     record { number = l .number; channel = ws; counts = l .consumed ∷ 0 ∷ []; out = out }
 refusedBy l (on ws (reports cause score out written)) = record { number = l .number; channel = ws; written = 0 ∷ []; out = out }
+refusedBy l (on ws (goes number)) = record { number = l .number; channel = ws }
 refusedBy l (on ws (lists ids count)) = record { number = l .number; count = 0 ∷ []; ids = ids }
 
 -- None due: 0, the stated length as consumed, the length of the exact answer as written, the answer at the front of the
@@ -177,6 +183,8 @@ answered (on ws (reports cause score out written)) =
       written = length (exact v (report cause score)) ∷ [];
       out = atFront (exact v (report cause score)) out;
     }
+answered (on ws (goes number)) =
+    record { number = 0; channel = numbersOf (outcome (channelIn ws) (back number) .next) }
 answered (on ws (lists ids count)) =
     let v : View = channelIn ws in
     record { number = 0; count = length (held v) ∷ []; ids = atFront (held v) ids }
@@ -190,13 +198,21 @@ byLine none c = answered c
 abbrev pub Demand1OfTheFace : Type 0
 Demand1OfTheFace = (c : FromC) → Places c → returned c ≡ byLine (firstDue (refusals c)) c
 
--- a message is handed in by klarvesimo_handle, a report's cause and score by klarvesimo_report
+-- a message is handed in by klarvesimo_handle, a report's cause and score by klarvesimo_report, an edition's number by
+-- klarvesimo_back
 abbrev pub handing : Lent → List ℕ → List ℕ → OnChannel
 handing (input s) out counts = handles s out counts
 handing (report cause score) out written = reports cause score out written
+handing (back number) out counts = goes number
 
--- What C sees of such a call: the number, the count consumed (of a report: none), and of the output as many bytes as
--- the count written says.
+-- klarvesimo_back is lent no output
+abbrev pub Lending : Lent → List ℕ → Type 0
+Lending (input s) out = Unit {0}
+Lending (report cause score) out = Unit {0}
+Lending (back number) out = out ≡ []
+
+-- What C sees of such a call: the number, the count consumed (of a report and a going back: none), and of the output as
+-- many bytes as the count written says (of a going back: none).
 abbrev pub seen : List ℕ → Lent → List ℕ → List ℕ → Reply
 seen ws (input s) out counts =
     let f : HandleCall = returned (on ws (handles s out counts)) in
@@ -204,6 +220,8 @@ seen ws (input s) out counts =
 seen ws (report cause score) out written =
     let f : ReportCall = returned (on ws (reports cause score out written)) in
     record { number = f .number; consumed = 0; written = take (getD (f .written) 0 0) (f .out) }
+seen ws (back number) out counts =
+    let f : BackFace = returned (on ws (goes number)) in record { number = f .number; consumed = 0; written = [] }
 
 -- the number that a call on the channel's numbers ws returns, and the numbers that it leaves
 abbrev pub stepped : List ℕ → OnChannel → Turn (List ℕ) ℕ
@@ -211,14 +229,18 @@ stepped ws (handles s out counts) =
     let f : HandleCall = returned (on ws (handles s out counts)) in record { reply = f .number; next = f .channel }
 stepped ws (reports cause score out written) =
     let f : ReportCall = returned (on ws (reports cause score out written)) in record { reply = f .number; next = f .channel }
+stepped ws (goes number) =
+    let f : BackFace = returned (on ws (goes number)) in record { reply = f .number; next = f .channel }
 stepped ws (lists ids count) =
     let f : HeldCall = returned (on ws (lists ids count)) in record { reply = f .number; next = ws }
 
--- one call of klarvesimo_handle or klarvesimo_report on the numbers ws: what is seen of it, and the numbers it leaves
+-- one call of klarvesimo_handle, klarvesimo_report or klarvesimo_back on the numbers ws: what is seen of it, and the
+-- numbers it leaves
 pub record CalledFromC (ws : List ℕ) (k : Call) (r : Reply) (next : List ℕ) : Type 0 where
   pub out : List ℕ
   pub counts : List ℕ
   pub room : k .room ≡ length out
+  pub lends : Lending (k .lent) out
   pub places : Places (on ws (handing (k .lent) out counts))
   pub saw : r ≡ seen ws (k .lent) out counts
   pub left : next ≡ stepped ws (handing (k .lent) out counts) .next

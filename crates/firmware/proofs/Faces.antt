@@ -1,5 +1,6 @@
 -- How the C face goes, one law for each way out. Assumes nothing.
-use mathlib.Core.Path.{_≡_, refl, sym, ap, _∙_}
+use mathlib.Core.Path.{_≡_, refl, sym, ap, ap₂, _∙_}
+use mathlib.Core.Bool.{Bool}
 use native.Mathlib.Omega.{arith}
 use mathlib.Core.List.{List, [], _∷_, _++_}
 use Prim.Native.Nat.{ℕ, zero, suc}
@@ -11,7 +12,7 @@ use Rattle.framing.specs.declared.Framing.the-variants.{Frame}
 use Rattle.framing.proofs.Frames.{Fits, frame-fits}
 use Rattle.message.specs.Message.{Reading, refused}
 use Rattle.message.specs.StartLines.{Started, started, startLine}
-use Rattle.message.specs.Reading.{fieldsFrom, readFrom, readFramed, reading}
+use Rattle.message.specs.Reading.{asksParams, fieldsFrom, readFrom, readFramed, reading}
 use Rattle.message.specs.declared.Span.{Span}
 use Rattle.startline.specs.StartLine.{startOf, startedOf}
 use Rattle.startline.specs.declared.Start as S
@@ -45,10 +46,11 @@ module _ (f : List ℕ) (k major minor : ℕ) (out : List ℕ) (line : L.StartLi
   pub malformed-line : line ≡ L.StartLine.Malformed → record { number = 5; consumed = length f; out = out } ≡ frameAs f major minor (startLine k f) out
   malformed-line q = ap (λ (x : Started). frameAs f major minor x out) (ap startedOf (sym q) ∙ p)
 
-  module _ (start : S.Start) (at : ℕ) (q : line ≡ L.StartLine.Line start at) (n : StartNumbers) (same : Numbers start n) (r : ℕ) (o : List ℕ)
-      (handing : record { number = r; out = o } ≡ handed (numbersOf major minor n ++ fieldsNumbers f (fieldsFrom f at)) out) where
-    given : record { number = r; out = o } ≡ handed (startNumbers major minor (startOf start) ++ fieldsNumbers f (fieldsFrom f at)) out
-    given = handing ∙ ap (λ (l : List ℕ). handed (l ++ fieldsNumbers f (fieldsFrom f at)) out) (same .same major minor)
+  module _ (start : S.Start) (at : ℕ) (q : line ≡ L.StartLine.Line start at) (n : StartNumbers) (same : Numbers start n)
+      (params : Bool) (asked : params ≡ asksParams f (startOf start)) (r : ℕ) (o : List ℕ)
+      (handing : record { number = r; out = o } ≡ handed (numbersOf major minor n ++ fieldsNumbers f (fieldsFrom params f at)) out) where
+    given : record { number = r; out = o } ≡ handed (startNumbers major minor (startOf start) ++ fieldsNumbers f (fieldsFrom (asksParams f (startOf start)) f at)) out
+    given = handing ∙ ap₂ (λ (l : List ℕ) (b : Bool). handed (l ++ fieldsNumbers f (fieldsFrom b f at)) out) (same .same major minor) asked
 
     as-line : (x : ReadFace) → x ≡ frameAs f major minor (started (startOf start) at) out → x ≡ frameAs f major minor (startLine k f) out
     as-line x e = e ∙ ap (λ (y : Started). frameAs f major minor y out) (ap startedOf (sym q) ∙ p)
@@ -83,7 +85,7 @@ module _ (s out place : List ℕ) (f : Framing) (p : f ≡ framing s) where
 
     as-read : (x : Started) → frameAs (take n s) a b x out ≡ readAs s (readFrom (record { stated = n; major = a; minor = b }) (take n s) x) out
     as-read Started.malformed = rw size
-    as-read (started st at) = ap (λ (m : ℕ). consuming m (handed (startNumbers a b st ++ fieldsNumbers (take n s) (fieldsFrom (take n s) at)) out)) size
+    as-read (started st at) = ap (λ (m : ℕ). consuming m (handed (startNumbers a b st ++ fieldsNumbers (take n s) (fieldsFrom (asksParams (take n s) st) (take n s) at)) out)) size
 
     pub read-framed : (number consumed : ℕ) (o : List ℕ)
         → record { number = number; consumed = consumed; out = o } ≡ frameAs (take n s) a b (startLine k (take n s)) out

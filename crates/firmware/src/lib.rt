@@ -61,7 +61,8 @@ fn read_frame(f: &[u8], k: usize, major: u64, minor: u64, out: &mut [u64]) -> Co
         },
         startline::StartLine::Line(start, at) => {
             let n = messagenumbers::start_numbers(start);
-            let number = messagenumbers::hand_over(f, at, major, minor, n, out);
+            let params = startline::asks_params(f, start);
+            let number = messagenumbers::hand_over(f, at, params, major, minor, n, out);
             let consumed = if number == 0 { length } else { 0 };
             Consumed { number, consumed }
         }

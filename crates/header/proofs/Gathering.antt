@@ -65,7 +65,7 @@ module _ (s : List ℕ) (i : ℕ) where
     pub lines-more : (n : ℕ) → 0 < n → front fs (fieldLines n s i) ≡ front (fs ++ x ∷ []) (fieldLines (n - 1) s next)
     lines-more n l = lines-field n l ∙ sym (front-last fs x (fieldLines (n - 1) s next))
 
--- the judgement of lines
+-- the names of fields
 module _ (f : List ℕ) where
   pub names-append : (fs : List (M.Field Span)) (x : M.Field Span) (gs : List (M.Field Span))
       → namesIn f (fs ++ x ∷ gs) ≡ namesIn f fs ++ knownOf (part f (x .name)) ∷ namesIn f gs
@@ -76,22 +76,24 @@ module _ (f : List ℕ) where
   names-length [] = refl
   names-length (x ∷ fs) = ap suc (names-length fs)
 
-  -- a known name that came twice is bad, whatever the later lines are
+-- the judgement of lines
+module _ (params : Bool) (f : List ℕ) where
+  -- a name that counts as known and came twice is bad, whatever the later lines are
   pub judged-twice : (fs : List (M.Field Span)) (x : M.Field Span)
-      → (isKnown (knownOf (part f (x .name))) && among (knownOf (part f (x .name))) (namesIn f fs)) ≡ true
-      → (r : Lines) → judged f (front fs (with x r)) ≡ bad
-  judged-twice fs x h Lines.malformed = ap (judged f) (front-malformed fs)
+      → (isKnown params (knownOf (part f (x .name))) && among (knownOf (part f (x .name))) (namesIn f fs)) ≡ true
+      → (r : Lines) → judged params f (front fs (with x r)) ≡ bad
+  judged-twice fs x h Lines.malformed = ap (judged params f) (front-malformed fs)
   judged-twice fs x h (lines gs b) =
-      ap (judged f) (front-lines fs (x ∷ gs) b)
-      ∙ rw (names-append fs x gs, twice-never (knownOf (part f (x .name))) (namesIn f gs) (namesIn f fs) h, judged)
+      ap (judged params f) (front-lines fs (x ∷ gs) b)
+      ∙ rw (names-append f fs x gs, twice-never params (knownOf (part f (x .name))) (namesIn f gs) (namesIn f fs) h, judged)
 
-  module _ (fs : List (M.Field Span)) (b : ℕ) (o : onceEach (namesIn f fs) ≡ true) where
+  module _ (fs : List (M.Field Span)) (b : ℕ) (o : onceEach params (namesIn f fs) ≡ true) where
     abbrev choice : Bool → Fields Span
     choice t = elim t [ true ↦ good fs (record { start = b; len = length f - b }) | false ↦ bad ]
 
     -- Content-Length is judged as joined, and the same as it stands
     pub judged-by : (t : Bool) → agrees (valueOf ContentLength (map (onField (part f)) fs)) (length f - b) ≡ t
-        → judged f (lines fs b) ≡ choice t
+        → judged params f (lines fs b) ≡ choice t
     judged-by t e =
         let given = valueOf ContentLength (map (onField (part f)) fs) in
         ap (λ z. choice (z && agrees (asJoined given) (length f - b))) o

@@ -46,25 +46,25 @@ name-inside f at r e x next h =
     let row = subst (Row at (length f)) (told-field (fieldLine at (drop at f)) x next (sym e ∙ h)) (field-line at f) in
     omega (arith, row .0, row .1)
 
-module _ (n mask : ℕ) (f : List ℕ) (l : F.Line) where
+module _ (params : Bool) (n mask : ℕ) (f : List ℕ) (l : F.Line) where
   -- what a step is, by the line r that the code found
   module _ (r : Line) (e : r ≡ lineOf l) where
-    pub step-malformed : r ≡ Line.Malformed → Step.Bad ≡ stepOf n mask f l
-    step-malformed h = sym (ap (stepOf n mask f) (told-malformed l (sym e ∙ h)))
+    pub step-malformed : r ≡ Line.Malformed → Step.Bad ≡ stepOf params n mask f l
+    step-malformed h = sym (ap (stepOf params n mask f) (told-malformed l (sym e ∙ h)))
 
-    pub step-empty : (b : ℕ) → r ≡ Line.Empty b → Step.End b ≡ stepOf n mask f l
-    step-empty b h = sym (ap (stepOf n mask f) (told-empty l b (sym e ∙ h)))
+    pub step-empty : (b : ℕ) → r ≡ Line.Empty b → Step.End b ≡ stepOf params n mask f l
+    step-empty b h = sym (ap (stepOf params n mask f) (told-empty l b (sym e ∙ h)))
 
     pub step-field : (x : Field) (next : ℕ) → r ≡ Line.Field x next → (k : Known) → k ≡ knownOf (part f (x .name))
-        → (t : Bool) → t ≡ mayCome n mask k
-        → elim t [ true ↦ Step.Field x k next | false ↦ Step.Bad ] ≡ stepOf n mask f l
+        → (t : Bool) → t ≡ mayCome params n mask k
+        → elim t [ true ↦ Step.Field x k next | false ↦ Step.Bad ] ≡ stepOf params n mask f l
     step-field x next h k ek t et =
         ap {B = Step} (λ t. elim t [ true ↦ Step.Field x k next | false ↦ Step.Bad ]) et
-        ∙ ap {B = Step} (λ k. elim (mayCome n mask k) [ true ↦ Step.Field x k next | false ↦ Step.Bad ]) ek
-        ∙ sym (ap (stepOf n mask f) (told-field l x next (sym e ∙ h)))
+        ∙ ap {B = Step} (λ k. elim (mayCome params n mask k) [ true ↦ Step.Field x k next | false ↦ Step.Bad ]) ek
+        ∙ sym (ap (stepOf params n mask f) (told-field l x next (sym e ∙ h)))
 
 -- what the line is, by the step
-module _ (n mask : ℕ) (f : List ℕ) where
+module _ (params : Bool) (n mask : ℕ) (f : List ℕ) where
   abbrev pub judgedStep : M.Field Span → ℕ → Bool → Step
   judgedStep y m t = elim t [ true ↦ Step.Field (fieldOf y) (knownOf (part f (y .name))) m | false ↦ Step.Bad ]
 
@@ -72,24 +72,24 @@ module _ (n mask : ℕ) (f : List ℕ) where
   never-end y m b true e = let d : _≡_ {A = ℕ} 0 1 = cc in omega arith
   never-end y m b false e = let d : _≡_ {A = ℕ} 0 1 = cc in omega arith
 
-  pub line-end : (l : F.Line) (b : ℕ) → stepOf n mask f l ≡ Step.End b → l ≡ empty b
+  pub line-end : (l : F.Line) (b : ℕ) → stepOf params n mask f l ≡ Step.End b → l ≡ empty b
   line-end F.Line.malformed b e = let d : _≡_ {A = ℕ} 0 1 = cc in absurd (omega arith)
   line-end (empty m) b e = let q : m ≡ b = cc in ap empty q
-  line-end (field y m) b e = absurd (never-end y m b (mayCome n mask (knownOf (part f (y .name)))) e)
+  line-end (field y m) b e = absurd (never-end y m b (mayCome params n mask (knownOf (part f (y .name)))) e)
 
   -- a field that may come
   pub record Comes (l : F.Line) (x : Field) (k : Known) (next : ℕ) : Type 0 where
     pub at-line : l ≡ field (asField x) next
     pub with-name : k ≡ knownOf (part f (x .name))
-    pub may : true ≡ mayCome n mask k
+    pub may : true ≡ mayCome params n mask k
 
-  pub line-field : (l : F.Line) (x : Field) (k : Known) (next : ℕ) → stepOf n mask f l ≡ Step.Field x k next
+  pub line-field : (l : F.Line) (x : Field) (k : Known) (next : ℕ) → stepOf params n mask f l ≡ Step.Field x k next
       → Comes l x k next
   line-field F.Line.malformed x k next e = let d : _≡_ {A = ℕ} 0 1 = cc in absurd (omega arith)
   line-field (empty m) x k next e = let d : _≡_ {A = ℕ} 0 1 = cc in absurd (omega arith)
-  line-field (field y m) x k next e = go (mayCome n mask (knownOf (part f (y .name)))) refl e
+  line-field (field y m) x k next e = go (mayCome params n mask (knownOf (part f (y .name)))) refl e
     where
-      go : (t : Bool) → mayCome n mask (knownOf (part f (y .name))) ≡ t → judgedStep y m t ≡ Step.Field x k next
+      go : (t : Bool) → mayCome params n mask (knownOf (part f (y .name))) ≡ t → judgedStep y m t ≡ Step.Field x k next
           → Comes (field y m) x k next
       go true q e =
           let p : fieldOf y ≡ x = cc in
@@ -98,6 +98,6 @@ module _ (n mask : ℕ) (f : List ℕ) where
           record {
             at-line = ap (field y) far ∙ ap (λ z. field (asField z) next) p;
             with-name = sym name ∙ ap (λ (z : Field). knownOf (part f (z .name))) p;
-            may = sym q ∙ ap (mayCome n mask) name;
+            may = sym q ∙ ap (mayCome params n mask) name;
           }
       go false q e = let d : _≡_ {A = ℕ} 0 1 = cc in absurd (omega arith)

@@ -14,10 +14,9 @@ use Rattle.message.specs.Message.{Field, part, onField}
 use Rattle.message.specs.Known.{knownOf, indexOf, is, isKnown, among, onceEach, valueOf}
 use Rattle.message.specs.declared.Known.{Known}
 use Rattle.message.specs.declared.Span.{Span}
-use Rattle.names.specs.Names.{maskWith, namesIn}
-use Rattle.names.specs.Steps.{knownBit}
+use Rattle.names.specs.Names.{bitOf, maskWith, namesIn}
 use Rattle.names.proofs.Masks.{index-small}
-use Rattle.names.proofs.Marks.{among-same, known-same, mask-test}
+use Rattle.names.proofs.Marks.{among-same, known-same, mask-came}
 use Rattle.header.specs.Header.{nowhere, valuesIn}
 use Rattle.header.specs.Steps.{givenBy}
 use Rattle.fieldlines.specs.declared.Field as H
@@ -68,31 +67,31 @@ module _ (f : List ℕ) where
         go true b e = absurd (false≢true (sym e))
         go false b e = (refl, e)
 
-    module _ (known : isKnown k ≡ true) where
+    module _ (params : Bool) (known : isKnown params k ≡ true) where
       -- the name at the front, which no later one is
       first : (x : Field Span) (fs : List (Field Span)) (w : List Span) → length w ≡ 16
-          → onceEach (namesIn f (x ∷ fs)) ≡ true → is k (nameOf x) ≡ true
+          → onceEach params (namesIn f (x ∷ fs)) ≡ true → is k (nameOf x) ≡ true
           → getD (valuesIn f (x ∷ fs) w) (indexOf k) nowhere ≡ x .value
       first x fs w l o e =
           let n = nameOf x in
           let same : indexOf k ≡ indexOf n = eqb-true (indexOf k) (indexOf n) e in
-          let once = not-true (isKnown n && among n (namesIn f fs))
-          (both (not (isKnown n && among n (namesIn f fs))) (onceEach (namesIn f fs)) o .0) in
+          let once = not-true (isKnown params n && among n (namesIn f fs))
+          (both (not (isKnown params n && among n (namesIn f fs))) (onceEach params (namesIn f fs)) o .0) in
           let gone : among k (namesIn f fs) ≡ false =
           among-same k n same (namesIn f fs)
-          ∙ sym (ap (λ b. b && among n (namesIn f fs)) (known-same n k (sym same) ∙ known)) ∙ once in
+          ∙ sym (ap (λ b. b && among n (namesIn f fs)) (known-same params n k (sym same) ∙ known)) ∙ once in
           let room : indexOf k < length w = omega (arith, index-small k) in
           values-kept fs (set w (indexOf n) (x .value)) gone
           ∙ ap (λ i. getD (set w i (x .value)) (indexOf k) nowhere) (sym same)
           ∙ getD-set-same w (indexOf k) (x .value) nowhere room
 
-      value-came : (fs : List (Field Span)) (w : List Span) → length w ≡ 16 → onceEach (namesIn f fs) ≡ true
+      value-came : (fs : List (Field Span)) (w : List Span) → length w ≡ 16 → onceEach params (namesIn f fs) ≡ true
           → among k (namesIn f fs) ≡ true
           → valueOf k (texts fs) ≡ some (part f (getD (valuesIn f fs w) (indexOf k) nowhere))
       value-came [] w l o h = absurd (false≢true h)
       value-came (x ∷ fs) w l o h =
           let n = nameOf x in
-          let rest = both (not (isKnown n && among n (namesIn f fs))) (onceEach (namesIn f fs)) o .1 in
+          let rest = both (not (isKnown params n && among n (namesIn f fs))) (onceEach params (namesIn f fs)) o .1 in
           go (is k n) refl h (value-came fs (set w (indexOf n) (x .value))
           (length-set w (indexOf n) (x .value) ∙ l) rest)
         where
@@ -103,16 +102,16 @@ module _ (f : List ℕ) where
           go true e h ih = value-here x fs e ∙ ap (λ p. some (part f p)) (sym (first x fs w l o e))
           go false e h ih = value-later x fs e ∙ ih h
 
-      module _ (fs : List (Field Span)) (once : onceEach (namesIn f fs) ≡ true) where
+      module _ (fs : List (Field Span)) (once : onceEach params (namesIn f fs) ≡ true) where
         abbrev valued : List ℕ
         valued = part f (getD (valuesIn f fs (replicate 16 nowhere)) (indexOf k) nowhere)
 
         abbrev unless : Bool → Option (List ℕ)
         unless b = elim b [ true ↦ none | false ↦ some valued ]
 
-        pub given-value : valueOf k (texts fs) ≡ givenBy (maskWith 0 (namesIn f fs)) (knownBit k) valued
+        pub given-value : valueOf k (texts fs) ≡ givenBy (maskWith 0 (namesIn f fs)) (bitOf k) valued
         given-value = go (among k (namesIn f fs)) refl
-            ∙ sym (ap unless (mask-test (namesIn f fs) k ∙ ap (λ t. not (t && among k (namesIn f fs))) known))
+            ∙ sym (ap unless (mask-came (namesIn f fs) k))
           where
             go : (b : Bool) → among k (namesIn f fs) ≡ b → valueOf k (texts fs) ≡ unless (not (among k (namesIn f fs)))
             go true e = value-came fs (replicate 16 nowhere) refl once e ∙ sym (ap (λ b. unless (not b)) e)

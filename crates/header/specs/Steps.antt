@@ -1,6 +1,6 @@
 -- What the steps of reading a header find, in the types of the code.
 use Prim.Native.Nat.{ℕ, _+_, _*_}
-use mathlib.Core.Bool.{true, false}
+use mathlib.Core.Bool.{Bool, true, false}
 use mathlib.Core.Option.{Option, none, some}
 use mathlib.Core.List.{List, [], _∷_, _++_}
 use lib.Bits.{bitAnd}
@@ -23,10 +23,10 @@ abbrev pub badHeader : Header
 badHeader = headerOf [] bad
 
 -- a line of f, judged after n fields with the names in `mask`
-abbrev pub stepOf : ℕ → ℕ → List ℕ → F.Line → Step
-stepOf n mask f F.Line.malformed = Step.Bad
-stepOf n mask f (empty next) = Step.End next
-stepOf n mask f (field x next) = elim (mayCome n mask (knownOf (part f (x .name)))) [
+abbrev pub stepOf : Bool → ℕ → ℕ → List ℕ → F.Line → Step
+stepOf params n mask f F.Line.malformed = Step.Bad
+stepOf params n mask f (empty next) = Step.End next
+stepOf params n mask f (field x next) = elim (mayCome params n mask (knownOf (part f (x .name)))) [
   | true ↦ Step.Field (fieldOf x) (knownOf (part f (x .name))) next
   | false ↦ Step.Bad
 ]

@@ -1,4 +1,4 @@
-// The fields of a frame and its body: document 01, "Fields" and judgement 2.
+// The fields of a frame and its body: document 01, "Fields" and judgement 2, and document 02, K5.
 ghost use mathlib.Core.Path.{_≡_};
 ghost use Prim.Native.Nat.{_+_, _≤_, _<_};
 ghost use lib.ListN.{length, drop};
@@ -16,8 +16,8 @@ pub const MOST_FIELDS: usize = names::MOST_FIELDS;
 pub const MOST_NAMES: usize = 16;
 
 // What stands after the start line. Where judgement 2 passes it: how many fields there are, the names that came as bits
-// of `mask`, the body, and the place of each known name's value, by the name's number; of the other names, which have
-// one number, the last one's. Else all is zero.
+// of `mask`, the body, and the place of each name's value, by the name's number; of a number that came more than once,
+// the last one's. Else all is zero.
 pub struct Header {
     pub good: bool,
     pub count: usize,
@@ -26,14 +26,14 @@ pub struct Header {
     pub values: [message::Span; MOST_NAMES],
 }
 
-// What a Content-Length says: a number of 1 to 19 digits, or none.
-enum Stated {
+// What a whole number's text says: a number of 1 to 19 digits, or none.
+pub enum Stated {
     None,
     Number(u64),
 }
 
 // The number that `v` writes, where digits are all of it.
-fn number(v: &[u8]) -> Stated
+pub fn number(v: &[u8]) -> Stated
     ensures { λ r. ⌜ r ≡ statedOf (now (v .entry)) ⌝ }
 {
     let d = digits::digits_at(v, 0, 19);
@@ -88,16 +88,16 @@ fn bad() -> Header
 }
 
 // The next line, judged after `count` fields with the known names in `mask`: a field with its name, or where the body
-// begins.
+// begins. In a SET-PARAMS or a GET-PARAMS, as `params` says, more names count as known.
 enum Step {
     Bad,
     End(usize),
     Field(fieldlines::Field, message::Known, usize),
 }
 
-fn next_step(f: &[u8], class: &[u8; 256], at: usize, count: usize, mask: u16) -> Step
+fn next_step(f: &[u8], class: &[u8; 256], at: usize, params: bool, count: usize, mask: u16) -> Step
     requires { ⌜ now class ≡ classes ⌝ }
-    ensures { λ r. ⌜ r ≡ stepOf count mask (now (f .entry)) (fieldLine at (drop at (now (f .entry)))) ⌝ }
+    ensures { λ r. ⌜ r ≡ stepOf params count mask (now (f .entry)) (fieldLine at (drop at (now (f .entry)))) ⌝ }
 {
     let line = fieldlines::field_line(f, class, at);
     match line {
@@ -105,7 +105,7 @@ fn next_step(f: &[u8], class: &[u8; 256], at: usize, count: usize, mask: u16) ->
         fieldlines::Line::Empty(next) => Step::End(next),
         fieldlines::Line::Field(x, next) => {
             let k = known_of(f, x);
-            if names::may_come(count, mask, k) {
+            if names::may_come(params, count, mask, k) {
                 Step::Field(x, k, next)
             } else {
                 Step::Bad
@@ -133,9 +133,9 @@ fn keep(places: &mut [u64], j: usize, x: fieldlines::Field)
 
 // The fields of the frame `f` from `at` on, and the body after them, in one pass over the lines; the body is not looked
 // at. `places` gets the four numbers of each field, of as many as fit. Content-Length has the number 1.
-pub fn read_header(f: &[u8], at: usize, places: &mut [u64]) -> Header
-    ensures { λ r. ⌜ (r ≡ headerOf (now (f .entry)) (fieldsFrom (now (f .entry)) at))
-        × Kept (now (places .entry)) (fieldsFrom (now (f .entry)) at) (now (places .exit)) ⌝ }
+pub fn read_header(f: &[u8], at: usize, params: bool, places: &mut [u64]) -> Header
+    ensures { λ r. ⌜ (r ≡ headerOf (now (f .entry)) (fieldsFrom params (now (f .entry)) at))
+        × Kept (now (places .entry)) (fieldsFrom params (now (f .entry)) at) (now (places .exit)) ⌝ }
 {
     let class = octets::table();
     let mut values = [NOWHERE; MOST_NAMES];
@@ -143,7 +143,7 @@ pub fn read_header(f: &[u8], at: usize, places: &mut [u64]) -> Header
     let mut count = 0;
     let mut i = at;
     loop {
-        let step = next_step(f, &class, i, count, mask);
+        let step = next_step(f, &class, i, params, count, mask);
         match step {
             Step::Bad => return bad(),
             Step::End(start) => {

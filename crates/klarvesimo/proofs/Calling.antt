@@ -3,7 +3,7 @@ use Prim.Native.Nat.{ℕ, zero, suc, _≤_}
 use mathlib.Core.Path.{_≡_, refl, sym, ap, subst, _∙_}
 use mathlib.Core.Bool.{Bool, true, false}
 use mathlib.Core.Option.{Option, none, some}
-use mathlib.Core.List.{List}
+use mathlib.Core.List.{List, []}
 use native.Mathlib.Omega.{arith}
 use lib.ListN.{length, set}
 use Rattle.lists.proofs.Tests.{choose}
@@ -11,7 +11,7 @@ use Rattle.ledger.specs.Ledger.{Turn}
 use Rattle.synth.specs.Kinds.{most}
 use Rattle.synth.specs.Channel.{View, wellNamed, sound}
 use Rattle.synth.specs.Calls as C
-use Rattle.synth.specs.Calls.{Lent, Call, Reply, call, openChannel}
+use Rattle.synth.specs.Calls.{Lent, back, Call, Reply, call, openChannel}
 use Rattle.synth.specs.declared.LastId.the-variants.{NoneSeen}
 use Rattle.synth.proofs.Theorems.Soundness.{call-sound}
 use Rattle.channelnames.specs.Names.{kindBy}
@@ -20,28 +20,30 @@ use Rattle.channel.specs.Channel.{view, opened}
 use Rattle.channel.specs.declared.Opened.{Opened}
 use Rattle.calls.specs.Promise.{Left, leftIn, Promise}
 use Rattle.calls.specs.declared.Handled.{Handled}
-use Rattle.calls.proofs.Leaving.{name-short, unsound-refused}
+use Rattle.calls.proofs.Leaving.{name-short, editions-short, unsound-refused}
 use Rattle.channelnumbers.specs.Numbers.{numbersOf, viewOf, isSound}
 use Rattle.channelnumbers.proofs.Theorems.LoadSaved.{sound-few}
 use Rattle.loading.specs.Loading.{Loads}
 use Rattle.loading.specs.declared.Loaded.{Loaded}
-use Rattle.klarvesimo.specs.Face.{openFace, CallFace, keeping, turnFace, callOn, callFace, counted, reported}
+use Rattle.klarvesimo.specs.Face.{openFace, CallFace, keeping, turnFace, callOn, callFace, counted, reported, gone, backFace}
 
 -- an opening
 pub opens : (name : List ℕ) (o : Opened) (saved : List ℕ) → opened o ≡ openChannel name
     → (length (view NoneSeen (o .channel) .name) ≤ 44 → length (view NoneSeen (o .channel) .queue) ≤ most (kindBy (view NoneSeen (o .channel) .name))
-    → saved ≡ numbersOf (view NoneSeen (o .channel))) → record { number = o .number; channel = saved } ≡ openFace name
+    → length (view NoneSeen (o .channel) .editions) ≤ 4 → saved ≡ numbersOf (view NoneSeen (o .channel))) → record { number = o .number; channel = saved } ≡ openFace name
 unfolding openFace
 opens name o saved e h =
     let v : view NoneSeen (o .channel) ≡ openChannel name .channel = ap (λ (x : C.Opened). x .channel) e in
     let fits = opened-fits name in
-    let same = h (subst (λ (x : View). length (x .name) ≤ 44) (sym v) (fits .0)) (subst (λ (x : View). length (x .queue) ≤ most (kindBy (x .name))) (sym v) (fits .1)) in
+    let same = h (subst (λ (x : View). length (x .name) ≤ 44) (sym v) (fits .0)) (subst (λ (x : View). length (x .queue) ≤ most (kindBy (x .name))) (sym v) (fits .1))
+    (subst (λ (x : View). length (x .editions) ≤ 4) (sym v) (fits .2)) in
     (λ i. record { number = e i .number; channel = (same ∙ ap numbersOf v) i })
   where
     opened-fits : (name : List ℕ) → (length (openChannel name .channel .name) ≤ 44) × (length (openChannel name .channel .queue) ≤ most (kindBy (openChannel name .channel .name)))
+        × (length (openChannel name .channel .editions) ≤ 4)
     opened-fits name = unfold openChannel in
-        choose (λ (o : C.Opened). (length (o .channel .name) ≤ 44) × (length (o .channel .queue) ≤ most (kindBy (o .channel .name)))) (wellNamed name)
-        (λ t. (name-fits name t, omega arith)) (λ t. (omega arith, omega arith))
+        choose (λ (o : C.Opened). (length (o .channel .name) ≤ 44) × (length (o .channel .queue) ≤ most (kindBy (o .channel .name))) × (length (o .channel .editions) ≤ 4)) (wellNamed name)
+        (λ t. (name-fits name t, omega arith, omega arith)) (λ t. (omega arith, omega arith, omega arith))
 
 module _ (ws out : List ℕ) (lent : Lent) where
   abbrev made : Call
@@ -100,11 +102,11 @@ module _ (ws out : List ℕ) (lent : Lent) where
     stays-sound : r .number ≡ 0 → sound next ≡ true
     stays-sound z = ap (λ (l : Left). sound (l .channel)) (p .same) ∙ call-sound v made (was-sound z)
 
-    answered : r .number ≡ 0 → {saved : List ℕ} → (length (next .name) ≤ 44 → length (next .queue) ≤ most (kindBy (next .name)) → saved ≡ numbersOf next)
+    answered : r .number ≡ 0 → {saved : List ℕ} → (length (next .name) ≤ 44 → length (next .queue) ≤ most (kindBy (next .name)) → length (next .editions) ≤ 4 → saved ≡ numbersOf next)
         → record { number = 0; channel = saved; consumed = r .consumed; written = r .written; out = after } ≡ callFace ws lent out
     answered z {saved} h =
         let s = stays-sound z in
-        let same : saved ≡ keeping (r .number) ws next = h (name-short next s) (sound-few next s) ∙ ap (λ (n : ℕ). keeping n ws next) (sym z) in
+        let same : saved ≡ keeping (r .number) ws next = h (name-short next s) (sound-few next s) (editions-short next s) ∙ ap (λ (n : ℕ). keeping n ws next) (sym z) in
         (λ i. record { number = sym z i; channel = same i; consumed = r .consumed; written = r .written; out = after }) ∙ promised
 
 module _ (ws out counts : List ℕ) (lent : Lent) (l : Loaded) (is : Loads ws l) (r : Handled) (after : List ℕ) (p : Promise (l .last) (l .channel) lent out r after) where
@@ -118,9 +120,22 @@ module _ (ws out counts : List ℕ) (lent : Lent) (l : Loaded) (is : Loads ws l)
 
   module _ (z : r .number ≡ 0) {saved : List ℕ}
       (h : length (view (r .last) (r .channel) .name) ≤ 44 → length (view (r .last) (r .channel) .queue) ≤ most (kindBy (view (r .last) (r .channel) .name))
-      → saved ≡ numbersOf (view (r .last) (r .channel))) where
+      → length (view (r .last) (r .channel) .editions) ≤ 4 → saved ≡ numbersOf (view (r .last) (r .channel))) where
     pub handle-answered : record { number = 0; channel = saved; counts = set (set counts 0 (r .consumed)) 1 (r .written); out = after } ≡ counted counts (callFace ws lent out)
     handle-answered = ap (counted counts) (answered ws out lent l is r after p z h)
 
     pub report-answered : record { number = 0; channel = saved; written = set counts 0 (r .written); out = after } ≡ reported counts (callFace ws lent out)
     report-answered = ap (reported counts) (answered ws out lent l is r after p z h)
+
+-- a going back, which is lent no output
+module _ (ws : List ℕ) (n : ℕ) (l : Loaded) (is : Loads ws l) (r : Handled) (p : Promise (l .last) (l .channel) (back n) [] r []) where
+  pub back-refused : (r .number ≡ 0 → ⊥) → record { number = r .number; channel = ws } ≡ backFace ws n
+  unfolding backFace
+  back-refused h = ap gone (refused ws [] (back n) l is r [] p h)
+
+  pub back-done : r .number ≡ 0 → {saved : List ℕ}
+      → (length (view (r .last) (r .channel) .name) ≤ 44 → length (view (r .last) (r .channel) .queue) ≤ most (kindBy (view (r .last) (r .channel) .name))
+      → length (view (r .last) (r .channel) .editions) ≤ 4 → saved ≡ numbersOf (view (r .last) (r .channel)))
+      → record { number = 0; channel = saved } ≡ backFace ws n
+  unfolding backFace
+  back-done z h = ap gone (answered ws [] (back n) l is r [] p z h)

@@ -1,13 +1,13 @@
--- The calls of the C face on a channel that the caller keeps as 64 numbers. The layout is that of include/klarvesimo.h.
+-- The calls of the C face on a channel that the caller keeps as 89 numbers. The layout is that of include/klarvesimo.h.
 use Prim.Native.Nat.{ℕ, zero, suc}
 use mathlib.Core.Bool.{true, false}
 use mathlib.Core.Option.{Option, none, some}
-use mathlib.Core.List.{List, _++_}
+use mathlib.Core.List.{List, [], _++_}
 use lib.Dec.{ltb}
 use lib.ListN.{length, drop, set}
 use Rattle.ledger.specs.Ledger.{Turn}
 use Rattle.synth.specs.Channel.{View, held, sound}
-use Rattle.synth.specs.Calls.{Lent, Reply, call, openChannel}
+use Rattle.synth.specs.Calls.{Lent, back, Reply, call, openChannel}
 use Rattle.channelnumbers.specs.Numbers.{numbersOf, viewOf}
 
 -- an opening's number, and the channel's numbers
@@ -45,7 +45,7 @@ abbrev pub callOn : Option View → List ℕ → Lent → List ℕ → CallFace
 callOn none ws lent out = record { number = 21; channel = ws; consumed = 0; written = 0; out = out }
 callOn (some v) ws lent out = turnFace (call v (record { lent = lent; room = length out })) ws out
 
--- a client message or an engine report
+-- a client message, an engine report or a going back
 unfoldable pub callFace : List ℕ → Lent → List ℕ → CallFace
 callFace ws lent out = callOn (viewOf ws) ws lent out
 
@@ -78,6 +78,17 @@ reported written f = record {
   written = set written 0 (f .written);
   out = f .out;
 }
+
+-- a going back: no output and no place for a count is lent
+pub record BackFace : Type 0 where
+  pub number : ℕ
+  pub channel : List ℕ
+
+abbrev pub gone : CallFace → BackFace
+gone f = record { number = f .number; channel = f .channel }
+
+unfoldable pub backFace : List ℕ → ℕ → BackFace
+backFace ws number = gone (callFace ws (back number) [])
 
 -- the number, how many ids are held, and the lent numbers with the ids at their front
 pub record HeldFace : Type 0 where

@@ -1,14 +1,14 @@
-// The C face of a channel, kept by the caller as 64 numbers. include/klarvesimo.h is its manual; framing and reading
+// The C face of a channel, kept by the caller as 89 numbers. include/klarvesimo.h is its manual; framing and reading
 // alone are in `firmware`.
 ghost use mathlib.Core.Path.{_≡_};
 ghost use mathlib.Core.List.{_++_};
 ghost use Prim.Native.Nat.{_≤_};
 ghost use lib.ListN.{length, take, drop};
 ghost use Rattle.synth.specs.Calls.{input, report as reportOf};
-ghost use Rattle.klarvesimo.specs.Face.{openFace, callFace, counted, reported, heldFace, listed};
+ghost use Rattle.klarvesimo.specs.Face.{openFace, callFace, counted, reported, backFace, heldFace, listed};
 
 #[no_mangle]
-pub extern "C" fn klarvesimo_open(channel: &mut [u64; 64], name: &[u8]) -> u32
+pub extern "C" fn klarvesimo_open(channel: &mut [u64; 89], name: &[u8]) -> u32
     ensures { λ r. ⌜ record { number = r; channel = now (channel .exit) } ≡ openFace (now (name .entry)) ⌝ }
 {
     let o = channel::open_channel(name);
@@ -20,7 +20,7 @@ pub extern "C" fn klarvesimo_open(channel: &mut [u64; 64], name: &[u8]) -> u32
 // A client message: `counts` gets what was consumed and what was written.
 #[no_mangle]
 pub extern "C" fn klarvesimo_handle(
-    channel: &mut [u64; 64],
+    channel: &mut [u64; 89],
     s: &[u8],
     out: &mut [u8],
     counts: &mut [u64; 2],
@@ -48,7 +48,7 @@ pub extern "C" fn klarvesimo_handle(
 // An engine report: its cause, and the score of what was recognized.
 #[no_mangle]
 pub extern "C" fn klarvesimo_report(
-    channel: &mut [u64; 64],
+    channel: &mut [u64; 89],
     cause: u32,
     score: f32,
     out: &mut [u8],
@@ -73,6 +73,24 @@ pub extern "C" fn klarvesimo_report(
     0
 }
 
+// A going back to an edition of the settings.
+#[no_mangle]
+pub extern "C" fn klarvesimo_back(channel: &mut [u64; 89], number: u32) -> u32
+    ensures { λ r. ⌜ record { number = r; channel = now (channel .exit) } ≡ backFace (now (channel .entry)) number ⌝ }
+{
+    let l = loading::load(channel);
+    let last = l.last;
+    let c = l.channel;
+    let r = back::go_back(last, c, number);
+    if r.number != 0 {
+        return r.number;
+    }
+    let seen = r.last;
+    let after = r.channel;
+    channelnumbers::save(seen, after, channel);
+    0
+}
+
 // The first `n` of `ids` at the front of `out`.
 fn put_ids(out: &mut [u64], ids: [u32; queue::MOST], n: usize)
     requires { ⌜ n ≤ 16 ⌝ }
@@ -88,7 +106,7 @@ fn put_ids(out: &mut [u64], ids: [u32; queue::MOST], n: usize)
 
 // The ids that the channel holds.
 #[no_mangle]
-pub extern "C" fn klarvesimo_held(channel: &[u64; 64], ids: &mut [u64], count: &mut [u64; 1]) -> u32
+pub extern "C" fn klarvesimo_held(channel: &[u64; 89], ids: &mut [u64], count: &mut [u64; 1]) -> u32
     ensures { λ r. ⌜ record { number = r; count = now (count .exit); ids = now (ids .exit) }
         ≡ listed (now (count .entry)) (heldFace (now (channel .entry)) (now (ids .entry))) ⌝ }
 {

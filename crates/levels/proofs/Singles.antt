@@ -1,15 +1,17 @@
--- The single-precision number that a quotient of two whole numbers is.
--- Assumes nothing.
+-- Single-precision numbers: the quotient of two whole numbers is one, its bits are no other number's, and x differs
+-- from itself where it is none. Assumes nothing.
 use mathlib.Core.Path.{_≡_, refl, sym, subst, ap, _∙_}
-use mathlib.Core.Bool.{Bool, true, false, cond}
+use mathlib.Core.Bool.{Bool, true, false, cond, false≢true}
 use Prim.Native.Nat.{ℕ, zero, suc, _+_, _*_, _^_, _≤_, _<_}
 use native.Mathlib.Nat.{mul-one, mul-pos, lt-irrefl, zero-mul}
 use native.Mathlib.Omega.{arith}
-use lib.Dec.{T, le→leb, ltb, eqb}
-use lib.IntN.{pos}
-use lib.Ieee.{Float, nan, inf, fin, Format, binary32, inFloat, isNan, round, units, odd, div, ofInt, up, down}
+use lib.Dec.{T, le→leb, ltb, eqb, not-T}
+use lib.IntN.{ℤ, pos}
+use lib.Ieee.{Float, nan, inf, fin, Format, binary32, inFloat, eq, ne, isNan, round, units, odd, div, ofInt, up, down, fits, toBits, ofBits}
 use lib.Ieee.{low, emax, prec}
-use lib.Ieee.Fits.{down-pos}
+use lib.Ieee.Bits.{is-false, ofBits-toBits}
+use lib.Ieee.Compare.{differs-from-itself}
+use lib.Ieee.Fits.{down-pos, div-fits}
 use lib.Ieee.Exact.{HasValue}
 use lib.Ieee.Back.{round-whole}
 use lib.Ieee.Scale.{round-same}
@@ -68,3 +70,42 @@ quotient-is n d hn hd h =
 
 pub quotient-number : (n d : ℕ) → n ≤ 16777216 → d ≤ 16777216 → 0 < d → isNan (quotient n d) ≡ false
 quotient-number n d hn hd h = ap isNan (quotient-is n d hn hd h) ∙ round-number binary32 false n d
+
+fin-not-nan : (s : Bool) (m : ℕ) (e : ℤ) → fin s m e ≡ nan → ⊥
+fin-not-nan s m e p = let z : _≡_ {A = ℕ} 0 1 = cc in omega arith
+
+-- x != x exactly at no number
+pub differs : (x : Float) → ne x x ≡ isNan x
+unfolding ne eq isNan
+differs nan = refl
+differs (inf true) = refl
+differs (inf false) = refl
+differs (fin s m e) =
+    is-false (ne (fin s m e) (fin s m e)) (not-T (ne (fin s m e) (fin s m e)) (λ t. fin-not-nan s m e (differs-from-itself (fin s m e) t)))
+
+no-number : (x : Float) → isNan x ≡ true → x ≡ nan
+unfolding isNan
+no-number nan e = refl
+no-number (inf s) e = absurd (false≢true e)
+no-number (fin s m k) e = absurd (false≢true e)
+
+nan-fits : T (fits binary32 nan)
+unfolding fits
+nan-fits = tt
+
+nan-none : isNan nan ≡ true
+unfolding isNan
+nan-none = refl
+
+-- what is no number has not the bits of a quotient
+pub other-bits : (x : Float) (n d : ℕ) → n ≤ 16777216 → d ≤ 16777216 → 0 < d → isNan x ≡ true
+    → eqb (toBits binary32 x) (toBits binary32 (quotient n d)) ≡ false
+unfolding quotient
+other-bits x n d hn hd h e =
+    ne-eqb _ _ (λ same.
+    false≢true (sym (quotient-number n d hn hd h)
+    ∙ ap isNan (sym (ofBits-toBits binary32 _ (div-fits binary32 (ofInt binary32 (pos n)) (ofInt binary32 (pos d)))))
+    ∙ ap (λ b. isNan (ofBits binary32 b)) (sym same)
+    ∙ ap (λ x. isNan (ofBits binary32 (toBits binary32 x))) (no-number x e)
+    ∙ ap isNan (ofBits-toBits binary32 nan nan-fits)
+    ∙ nan-none))

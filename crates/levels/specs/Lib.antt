@@ -1,2 +1,2 @@
-pub mod Thresholds
+pub mod Reading
 pub mod Steps

@@ -1,15 +1,20 @@
-// Levels between 0 and 1 as a field's value has them: document 02, K1.
+// Levels between 0 and 1 as a field's value has them, and the single-precision number of one that is kept by its
+// millionths: document 02, K1 and K5.
 ghost use mathlib.Core.Path.{_≡_};
-ghost use mathlib.Core.Option.{some};
 ghost use Prim.Native.Nat.{_+_, _-_, _*_, _^_, _≤_, _<_};
-ghost use Rattle.levels.specs.Thresholds.{kept, thresholdOf};
+ghost use Rattle.synth.specs.Levels.{single};
+ghost use Rattle.synth.specs.Settings.{isKept};
+ghost use Rattle.levels.specs.Reading.{kept, levelFound};
 ghost use Rattle.levels.specs.Steps.{isFirst, levelBy};
 
-// What Confidence-Threshold says: no level, or a level by the bits of the single-precision number.
-pub enum Threshold {
+// What a text says as a level: none, or its millionths and the single-precision number.
+pub enum Found {
     Illegal,
-    Of(u32),
+    Of(synth::Level),
 }
+
+// The millionths of one, above which is no level.
+pub const ONE: u32 = 1000000;
 
 // The powers of ten that divide the digits of a level.
 fn power(places: usize) -> u32
@@ -28,15 +33,18 @@ fn power(places: usize) -> u32
 }
 
 // The level of the digits `n`, of which so many stand behind the point, where it is at most one.
-fn at_most_one(n: u32, places: usize) -> Threshold
+fn at_most_one(n: u32, places: usize) -> Found
     requires { ⌜ places ≤ 6 ⌝ }
     ensures { λ r. ⌜ r ≡ kept (levelBy n places) ⌝ }
 {
     let d = power(places);
     if d < n {
-        return Threshold::Illegal;
+        return Found::Illegal;
     }
-    Threshold::Of(f32::to_bits((n as f32) / (d as f32)))
+    Found::Of(synth::Level {
+        millionths: n * power(6 - places),
+        single: (n as f32) / (d as f32),
+    })
 }
 
 // The digits of a level as a whole number: `first` is `0` or `1`, and `value` is what those behind the point write.
@@ -57,29 +65,55 @@ fn is_first(b: u8) -> bool
 }
 
 // The level that `v` writes. At most eight bytes are looked at.
-pub fn level_in(v: &[u8]) -> Threshold
-    ensures { λ r. ⌜ r ≡ thresholdOf (some (now (v .entry))) ⌝ }
+pub fn level_in(v: &[u8]) -> Found
+    ensures { λ r. ⌜ r ≡ levelFound (now (v .entry)) ⌝ }
 {
     if v.len() == 0 {
-        return Threshold::Illegal;
+        return Found::Illegal;
     }
     let first = v[0];
     if !is_first(first) {
-        return Threshold::Illegal;
+        return Found::Illegal;
     }
     if v.len() == 1 {
         return at_most_one(digits_of(first, 0, 0), 0);
     }
     if v[1] != b'.' {
-        return Threshold::Illegal;
+        return Found::Illegal;
     }
     let d = digits::digits_at(v, 2, 6);
     let places = d.count;
     if places == 0 {
-        return Threshold::Illegal;
+        return Found::Illegal;
     }
     if v.len() - 2 != places {
-        return Threshold::Illegal;
+        return Found::Illegal;
     }
     at_most_one(digits_of(first, d.value, places), places)
+}
+
+// The single-precision number of a level that is kept by its millionths: one division, rounded once.
+pub fn single(millionths: u32) -> f32
+    ensures { λ r. ⌜ (millionths ≤ 1000000 → r ≡ single millionths) ⌝ }
+{
+    if ONE < millionths {
+        return 1.0;
+    }
+    (millionths as f32) / (ONE as f32)
+}
+
+// Whether a level is one that reading can give: its number is that of its millionths, bit for bit. No number has no
+// bits to compare.
+pub fn is_kept(l: synth::Level) -> bool
+    ensures { λ r. ⌜ r ≡ isKept l ⌝ }
+{
+    let millionths = l.millionths;
+    if ONE < millionths {
+        return false;
+    }
+    let x = l.single;
+    if x != x {
+        return false;
+    }
+    f32::to_bits(x) == f32::to_bits(single(millionths))
 }

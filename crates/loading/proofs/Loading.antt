@@ -14,30 +14,33 @@ use lib.ListN.{length, take, getD, set, replicate, length-append, length-map, le
 use lib.Seq.{take-suc-set}
 use borrow.Author.Tests.{lt-ltb, ltb-true, le-leb, leb-true, eqb-true}
 use Rattle.lists.specs.Lists.{all}
-use Rattle.lists.proofs.Tests.{both, choose, either, refuted}
+use Rattle.lists.proofs.Tests.{both, either, refuted}
 use Rattle.lists.proofs.Scans.{all-append, all-of}
 use Rattle.octets.specs.Octets.{within, isValue}
 use Rattle.answer.specs.declared.Kind.{Kind}
 use Rattle.synth.specs.Kinds.{most}
-use Rattle.synth.specs.Channel.{View, kind, ids, firstAbove, sound}
+use Rattle.synth.specs.Channel.{View, kind, ids, firstAbove, areLevels, areEditions, sound}
 use Rattle.synth.specs.declared.State.{State}
 use Rattle.synth.specs.declared.State.the-variants.{Recognized}
 use Rattle.synth.specs.declared.Entry.{Entry}
+use Rattle.synth.specs.declared.Edition.{Edition}
 use Rattle.synth.specs.declared.LastId.{LastId}
 use Rattle.synth.proofs.Channels.{Small, small-by, most-16, sound-facts, held-small}
 use Rattle.synth.proofs.Names as S
 use Rattle.queue.specs.Queue.{killIn, entryIn, entriesOf, listOf}
-use Rattle.queue.proofs.Queues.{entries-long, within as within-queue}
+use Rattle.queue.proofs.Queues.{level-same, entries-long, within as within-queue}
 use Rattle.channelnames.specs.Names.{nameOf, kindBy}
 use Rattle.channelnames.proofs.Fits.{name-fits}
 use Rattle.channelnames.proofs.Names.{within as within-name}
+use Rattle.channelnames.proofs.Tails.{named-kind}
+use Rattle.settings.specs.Kept.{editionsOf}
 use Rattle.channel.specs.Channel.{view}
 use Rattle.channel.specs.declared.Channel.{Channel}
-use Rattle.channelnumbers.specs.Numbers.{thresholds, stateAt, lastAt, entryAt, leveled, numbersAt, entriesAt, isThreshold, thresholdsFit, viewWith, viewAt, viewOf, isSound, isEntry, isByte}
+use Rattle.channelnumbers.specs.Numbers.{stateAt, lastAt, entryAt, leveled, numbersAt, entriesAt, editionsIn, nameIn, viewWith, viewAt, viewOf, isSound, isEntry, isByte}
 use Rattle.channelnumbers.specs.Steps.{thresholdCount}
-use Rattle.channelnumbers.proofs.Theorems.LoadSaved.{sound-few, fit-some}
+use Rattle.channelnumbers.proofs.Theorems.LoadSaved.{sound-few, sound-four}
 use Rattle.loading.specs.Loading.{Loads}
-use Rattle.loading.specs.Steps.{frontFits, entriesFit, levelsFit, queueFits, nameFits, LoadsPart}
+use Rattle.loading.specs.Steps.{frontFits, entriesFit, levelsFit, queueFits, nameFits, editionsKept, orNone, LoadsPart}
 
 numbers-count : (at n : ℕ) (ws : List ℕ) → length (numbersAt at n ws) ≡ n
 numbers-count at zero ws = refl
@@ -51,24 +54,10 @@ numbers-more at n ws = rw (add-one n) (go at n)
     go at zero = rw (add-zero at)
     go at (suc n) = ap (λ (l : List ℕ). getD ws at 0 ∷ l) (go (suc at) n ∙ ap (λ (k : ℕ). numbersAt (suc at) n ws ++ getD ws k 0 ∷ []) (suc-add at n ∙ sym (add-suc at n)))
 
--- numbers that were tested, and the one that failed
+-- one more that was tested
 module _ (test : ℕ → Bool) (ws : List ℕ) (at : ℕ) where
   pub all-more : (i : ℕ) → all test (numbersAt at i ws) ≡ true → test (getD ws (at + i) 0) ≡ true → all test (numbersAt at (i + 1) ws) ≡ true
   all-more i h e = rw (numbers-more at i ws) (all-append test (numbersAt at i ws) (getD ws (at + i) 0 ∷ []) h (rw e))
-
-  pub all-stop : (n i : ℕ) → i < n → test (getD ws (at + i) 0) ≡ false → all test (numbersAt at n ws) ≡ false
-  all-stop n i h e = go at n i h e
-    where
-      go : (at n i : ℕ) → i < n → test (getD ws (at + i) 0) ≡ false → all test (numbersAt at n ws) ≡ false
-      go at zero i h e = absurd (omega arith)
-      go at (suc n) zero h e = let f : test (getD ws at 0) ≡ false = rw (add-zero at) at e in rw f
-      go at (suc n) (suc i) h e =
-          let f : test (getD ws (suc at + i) 0) ≡ false = rw (add-suc at i, ← suc-add at i) at e in
-          first-or (test (getD ws at 0)) (go (suc at) n i (omega arith) f)
-        where
-          first-or : {b : Bool} (a : Bool) → b ≡ false → (a && b) ≡ false
-          first-or true e = e
-          first-or false e = refl
 
 -- all of some and of one more
 all-last : {A : Type 0} (test : A → Bool) (l : List A) (x : A) → all test (l ++ x ∷ []) ≡ true → (all test l ≡ true) × (test x ≡ true)
@@ -116,17 +105,51 @@ module _ {A : Type 0} {k : ℕ} {f : ℕ → A} {at : ℕ} (ws : List ℕ) (l : 
         or-lt k bits (getD ws (at + i) 0) (s .below (q .0)) (ltb-true (getD ws (at + i) 0) (2 ^ k) (q .1));
   }
 
+pub regroup : (a b c : Bool) → (a && b && c) ≡ (a && (b && c))
+regroup true b c = refl
+regroup false b c = refl
+
+last-on : (a : Bool) → a ≡ (a && true)
+last-on true = refl
+last-on false = refl
+
+all-snoc : (test : ℕ → Bool) (l : List ℕ) (x : ℕ) → all test (l ++ x ∷ []) ≡ (all test l && test x)
+all-snoc test [] x = sym (last-on (test x))
+all-snoc test (y ∷ l) x = ap (λ (b : Bool). test y && b) (all-snoc test l x) ∙ sym (regroup (test y) (all test l) (test x))
+
+abbrev isLevel : ℕ → Bool
+isLevel n = ltb n 1000001
+
+-- what the loop over the thresholds tests, and what it stores where all that it tested are levels
+pub record Leveled (start : Bool) (ws levels : List ℕ) (fits : Bool) (i : ℕ) : Type 0 where
+  pub tested : fits ≡ (start && levelsFit i ws)
+  pub stored : fits ≡ true → take i levels ≡ numbersAt 12 i ws
+
+pub leveled-none : (start : Bool) (ws levels : List ℕ) → Leveled start ws levels start 0
+leveled-none start ws levels = record { tested = last-on start; stored = λ z. refl }
+
+pub leveled-more : (start : Bool) (ws levels : List ℕ) (fits after : Bool) (i e : ℕ) → i < length levels
+    → after ≡ (fits && isLevel (getD ws (12 + i) 0)) → (getD ws (12 + i) 0 < 4294967296 → e ≡ getD ws (12 + i) 0)
+    → Leveled start ws levels fits i → Leveled start ws (set levels i e) after (i + 1)
+leveled-more start ws levels fits after i e h f is s =
+    let x : ℕ = getD ws (12 + i) 0 in
+    let more : levelsFit (i + 1) ws ≡ (levelsFit i ws && isLevel x) = ap (all isLevel) (numbers-more 12 i ws) ∙ all-snoc isLevel (numbersAt 12 i ws) x in
+    record {
+      tested = f
+          ∙ ap (λ (b : Bool). b && isLevel x) (s .tested)
+          ∙ regroup start (levelsFit i ws) (isLevel x)
+          ∙ ap (λ (b : Bool). start && b) (sym more);
+      stored = λ z.
+          let p = both fits (isLevel x) (sym f ∙ z) in
+          let small : x < 4294967296 = omega (arith, ltb-true x 1000001 (p .1)) in
+          rw (is small, numbers-more 12 i ws, add-one i, take-suc-set levels i, s .stored (p .0));
+    }
+
 -- entries with thresholds
 leveled-ids : (q : List Entry) (l : List ℕ) → length q ≡ length l → ids (leveled q l) ≡ ids q
 leveled-ids [] l e = refl
 leveled-ids (x ∷ q) [] e = absurd (let z : suc (length q) ≡ 0 = e in omega arith)
 leveled-ids (x ∷ q) (n ∷ l) e = ap (λ (r : List ℕ). x .id ∷ r) (leveled-ids q l (omega (arith, e)))
-
-leveled-thresholds : (q : List Entry) (l : List ℕ) → length q ≡ length l → thresholds (leveled q l) ≡ l
-leveled-thresholds [] [] e = refl
-leveled-thresholds [] (n ∷ l) e = absurd (let z : 0 ≡ suc (length l) = e in omega arith)
-leveled-thresholds (x ∷ q) [] e = absurd (let z : suc (length q) ≡ 0 = e in omega arith)
-leveled-thresholds (x ∷ q) (n ∷ l) e = ap (λ (r : List ℕ). n ∷ r) (leveled-thresholds q l (omega (arith, e)))
 
 -- the entries of either kind
 module _ (n : ℕ) (ws : List ℕ) where
@@ -149,13 +172,6 @@ module _ (n : ℕ) (ws : List ℕ) where
       ∙ ap length (entries-ids kind)
       ∙ length-map bare (λ (e : Entry). e .id)
       ∙ bare-count
-
-  levels-are : thresholds (entriesAt Kind.Recognizer n ws) ≡ numbersAt 12 n ws
-  levels-are = leveled-thresholds bare (numbersAt 12 n ws) as-many
-
-bare-fit : (l : List ℕ) → all (isThreshold Kind.Synthesizer) (thresholds (map entryAt l)) ≡ true
-bare-fit [] = refl
-bare-fit (n ∷ l) = bare-fit l
 
 -- the front's tests, one by one
 pub record Front (kind : Kind) (ws : List ℕ) : Type 0 where
@@ -185,10 +201,10 @@ unfolding nameOf
 too-long bytes e = simp (length-append, length-take, length-replicate, e) (omega arith)
 
 module _ {A : Type 0} {fits : Bool} {said : List A} {most : ℕ} {loaded : List A} where
-  part-fits : fits ≡ true → loaded ≡ said → LoadsPart fits said most loaded
+  pub part-fits : fits ≡ true → loaded ≡ said → LoadsPart fits said most loaded
   part-fits f e = record { fit = λ z. e; unfit = λ z. absurd (false≢true (sym z ∙ f)) }
 
-  part-unfit : (fits ≡ true → ⊥) → most < length loaded → LoadsPart fits said most loaded
+  pub part-unfit : (fits ≡ true → ⊥) → most < length loaded → LoadsPart fits said most loaded
   part-unfit f h = record { fit = λ z. absurd (f z); unfit = λ z. h }
 
 none-some : {A : Type 0} {x : A} → none ≡ some x → ⊥
@@ -229,61 +245,72 @@ take-entries (suc n) (h ∷ numbers) [] = refl
 take-entries (suc n) (h ∷ numbers) (m ∷ levels) = ap (λ (l : List Entry). entryIn h m ∷ l) (take-entries n numbers levels)
 
 -- the number of an entry tells it, with no threshold and with its own
-entry-told : (n m : ℕ) → isEntry n ≡ true → entryIn n m ≡ record { id = n / 2; kill = killIn n; threshold = m }
-entry-told n m t =
+entry-told : (n m : ℕ) → isEntry n ≡ true → m ≤ 1000000 → entryIn n m ≡ record { id = n / 2; kill = killIn n; threshold = m }
+entry-told n m t h =
     let small : n < 8589934592 = ltb-true n 8589934592 t in
     let id : n / 2 % 4294967296 ≡ n / 2 = omega (arith, small) in
-    λ i. record { id = id i; kill = killIn n; threshold = m }
+    λ i. record { id = id i; kill = killIn n; threshold = level-same m h i }
 
 bare-told : (l : List ℕ) (n : ℕ) → all isEntry l ≡ true → length l ≤ n → entriesOf l (take (length l) (replicate n 0)) ≡ map entryAt l
 bare-told [] n t h = refl
 bare-told (x ∷ l) zero t h = absurd (omega arith)
 bare-told (x ∷ l) (suc n) t h =
     let p = both (isEntry x) (all isEntry l) t in
-    ap₂ (λ (e : Entry) (r : List Entry). e ∷ r) (entry-told x 0 (p .0)) (bare-told l n (p .1) (omega arith))
+    ap₂ (λ (e : Entry) (r : List Entry). e ∷ r) (entry-told x 0 (p .0) (omega arith)) (bare-told l n (p .1) (omega arith))
 
-leveled-told : (l m : List ℕ) → all isEntry l ≡ true → entriesOf l m ≡ leveled (map entryAt l) m
-leveled-told [] m t = refl
-leveled-told (x ∷ l) [] t = refl
-leveled-told (x ∷ l) (y ∷ m) t =
+leveled-told : (l m : List ℕ) → all isEntry l ≡ true → all isLevel m ≡ true → entriesOf l m ≡ leveled (map entryAt l) m
+leveled-told [] m t u = refl
+leveled-told (x ∷ l) [] t u = refl
+leveled-told (x ∷ l) (y ∷ m) t u =
     let p = both (isEntry x) (all isEntry l) t in
-    ap₂ (λ (e : Entry) (r : List Entry). e ∷ r) (entry-told x y (p .0)) (leveled-told l m (p .1))
+    let q = both (isLevel y) (all isLevel m) u in
+    ap₂ (λ (e : Entry) (r : List Entry). e ∷ r) (entry-told x y (p .0) (omega (arith, ltb-true y 1000001 (q .0)))) (leveled-told l m (p .1) (q .1))
+
+-- the thresholds that are told are levels exactly where their numbers are
+levels-told : (l m : List ℕ) → length l ≡ length m → areLevels (leveled (map entryAt l) m) ≡ true → all isLevel m ≡ true
+levels-told [] [] e h = refl
+levels-told [] (y ∷ m) e h = absurd (let z : 0 ≡ suc (length m) = e in omega arith)
+levels-told (x ∷ l) [] e h = absurd (let z : suc (length l) ≡ 0 = e in omega arith)
+levels-told (x ∷ l) (y ∷ m) e h =
+    let p = both (leb y 1000000) (areLevels (leveled (map entryAt l) m)) h in
+    rw (lt-ltb y 1000001 (omega (arith, leb-true y 1000000 (p .0))), levels-told l m (omega (arith, e)) (p .1))
 
 -- the queue that both loops leave
 module _ (ws : List ℕ) where
   abbrev count : ℕ
   count = getD ws 2 0
 
-  queue-fits : (kind : Kind) → entriesFit kind ws ≡ true → all (isThreshold kind) (thresholds (entriesAt kind count ws)) ≡ true → queueFits kind ws ≡ true
+  queue-fits : (kind : Kind) → entriesFit kind ws ≡ true → areLevels (entriesAt kind count ws) ≡ true → queueFits kind ws ≡ true
   queue-fits Kind.Synthesizer e f = e
-  queue-fits Kind.Recognizer e f = let g : levelsFit count ws ≡ true = rw (levels-are count ws) at f in rw (e, g)
+  queue-fits Kind.Recognizer e f =
+      let size : length (numbersAt 4 count ws) ≡ length (numbersAt 12 count ws) = numbers-count 4 count ws ∙ sym (numbers-count 12 count ws) in
+      rw (e, levels-told (numbersAt 4 count ws) (numbersAt 12 count ws) size f)
 
-  fits-entries : (kind : Kind) → queueFits kind ws ≡ true → (entriesFit kind ws ≡ true) × (all (isThreshold kind) (thresholds (entriesAt kind count ws)) ≡ true)
-  fits-entries Kind.Synthesizer e = (e, bare-fit (numbersAt 4 count ws))
-  fits-entries Kind.Recognizer e = let p = both (entriesFit Kind.Recognizer ws) (levelsFit count ws) e in (p .0, rw (levels-are count ws) (p .1))
+  fits-entries : (kind : Kind) → queueFits kind ws ≡ true → (entriesFit kind ws ≡ true) × (levelsFit (thresholdCount kind count) ws ≡ true)
+  fits-entries Kind.Synthesizer e = (e, refl)
+  fits-entries Kind.Recognizer e = both (entriesFit Kind.Recognizer ws) (levelsFit count ws) e
 
   loaded-entries : (kind : Kind) (numbers levels : List ℕ) → count ≤ 16 → all isEntry (numbersAt 4 count ws) ≡ true
-      → take count numbers ≡ map (λ (n : ℕ). n) (numbersAt 4 count ws)
-      → take (thresholdCount kind count) levels ≡ map (λ (n : ℕ). n) (numbersAt 12 (thresholdCount kind count) ws)
+      → take count numbers ≡ map (λ (n : ℕ). n) (numbersAt 4 count ws) → levelsFit (thresholdCount kind count) ws ≡ true
+      → take (thresholdCount kind count) levels ≡ numbersAt 12 (thresholdCount kind count) ws
       → (thresholdCount kind count ≡ 0 → levels ≡ replicate 16 0) → take count (entriesOf numbers levels) ≡ entriesAt kind count ws
-  loaded-entries Kind.Synthesizer numbers levels few t h l unset =
+  loaded-entries Kind.Synthesizer numbers levels few t h u l unset =
       let size : length (numbersAt 4 count ws) ≡ count = numbers-count 4 count ws in
       take-entries count numbers levels
       ∙ ap₂ entriesOf (h ∙ map-id (numbersAt 4 count ws)) (ap (take count) (unset refl) ∙ ap (λ (n : ℕ). take n (replicate 16 0)) (sym size))
       ∙ bare-told (numbersAt 4 count ws) 16 t (rw size few)
-  loaded-entries Kind.Recognizer numbers levels few t h l unset =
+  loaded-entries Kind.Recognizer numbers levels few t h u l unset =
       take-entries count numbers levels
-      ∙ ap₂ entriesOf (h ∙ map-id (numbersAt 4 count ws)) (l ∙ map-id (numbersAt 12 count ws))
-      ∙ leveled-told (numbersAt 4 count ws) (numbersAt 12 count ws) t
+      ∙ ap₂ entriesOf (h ∙ map-id (numbersAt 4 count ws)) l
+      ∙ leveled-told (numbersAt 4 count ws) (numbersAt 12 count ws) t u
 
   queue-unfit : (kind : Kind) → frontFits kind ws ≡ false → queueFits kind ws ≡ true → ⊥
   queue-unfit kind f e = false≢true (sym f ∙ both (frontFits kind ws) (all isEntry (numbersAt 4 count ws)) (fits-entries kind e .0) .0)
 
   -- both loops at their ends
-  module _ (kind : Kind) {numbers levels : List ℕ} {bits level-bits : ℕ} (e : Gathered 33 (λ (n : ℕ). n) 4 ws numbers bits count)
-      (l : Gathered 32 (λ (n : ℕ). n) 12 ws levels level-bits (thresholdCount kind count)) where
-    bits-fit : frontFits kind ws ≡ true → bits < 8589934592 → level-bits < 4294967296 → queueFits kind ws ≡ true
-    bits-fit f y z = go kind f (l .fit z .0)
+  module _ (kind : Kind) {numbers : List ℕ} {bits : ℕ} (e : Gathered 33 (λ (n : ℕ). n) 4 ws numbers bits count) where
+    bits-fit : frontFits kind ws ≡ true → bits < 8589934592 → levelsFit (thresholdCount kind count) ws ≡ true → queueFits kind ws ≡ true
+    bits-fit f y z = go kind f z
       where
         each : all isEntry (numbersAt 4 count ws) ≡ true
         each = e .fit y .0
@@ -292,20 +319,15 @@ module _ (ws : List ℕ) where
         go Kind.Synthesizer f t = rw (f, each)
         go Kind.Recognizer f t = rw (f, each, t)
 
-    fit-bits : queueFits kind ws ≡ true → (bits < 8589934592) × (level-bits < 4294967296)
-    fit-bits f = (e .below (told kind f .0), l .below (told kind f .1))
-      where
-        told : (kind : Kind) → queueFits kind ws ≡ true → (all isEntry (numbersAt 4 count ws) ≡ true) × (levelsFit (thresholdCount kind count) ws ≡ true)
-        told Kind.Synthesizer f = (both (frontFits Kind.Synthesizer ws) (all isEntry (numbersAt 4 count ws)) f .1, refl)
-        told Kind.Recognizer f =
-            let p = both (entriesFit Kind.Recognizer ws) (levelsFit count ws) f in
-            (both (frontFits Kind.Recognizer ws) (all isEntry (numbersAt 4 count ws)) (p .0) .1, p .1)
+    fit-bits : queueFits kind ws ≡ true → bits < 8589934592
+    fit-bits f = e .below (both (frontFits kind ws) (all isEntry (numbersAt 4 count ws)) (fits-entries kind f .0) .1)
 
-    queue-listed : count ≤ 16 → (thresholdCount kind count ≡ 0 → levels ≡ replicate 16 0) → bits < 8589934592 → level-bits < 4294967296
+    queue-listed : {levels : List ℕ} → count ≤ 16 → (thresholdCount kind count ≡ 0 → levels ≡ replicate 16 0) → bits < 8589934592
+        → levelsFit (thresholdCount kind count) ws ≡ true → take (thresholdCount kind count) levels ≡ numbersAt 12 (thresholdCount kind count) ws
         → listOf (record { numbers = numbers; thresholds = levels; count = count }) ≡ entriesAt kind count ws
-    queue-listed few unset y z =
+    queue-listed {levels} few unset y z l =
         within-queue (record { numbers = numbers; thresholds = levels; count = count }) few
-        ∙ loaded-entries kind numbers levels few (e .fit y .0) (e .fit y .1) (l .fit z .1) unset
+        ∙ loaded-entries kind numbers levels few (e .fit y .0) (e .fit y .1) z l unset
 
   -- what the counts make of it, `fits` being whether the front does
   pub count-most : (kind : Kind) (fits : Bool) → fits ≡ frontFits kind ws → cond fits count 0 ≤ most kind
@@ -319,25 +341,27 @@ module _ (ws : List ℕ) where
     queue-past : shown ≡ 17 → (queueFits kind ws ≡ true → ⊥) → QueueLoaded
     queue-past c unfit = rw c (part-unfit unfit (too-many numbers levels long leveled-long))
 
-    module _ {bits level-bits : ℕ} (front : frontFits kind ws ≡ true) (e : Gathered 33 (λ (n : ℕ). n) 4 ws numbers bits count)
-        (l : Gathered 32 (λ (n : ℕ). n) 12 ws levels level-bits (thresholdCount kind count)) (unset : thresholdCount kind count ≡ 0 → levels ≡ replicate 16 0) where
-      queue-front : (y : Bool) → ltb bits 8589934592 ≡ y → (z : Bool) → ltb level-bits 4294967296 ≡ z → shown ≡ cond (y && z) count 17 → QueueLoaded
-      queue-front false p z q c = queue-past c (λ t. false≢true (sym p ∙ lt-ltb bits 8589934592 (fit-bits kind e l t .0)))
-      queue-front true p false q c = queue-past c (λ t. false≢true (sym q ∙ lt-ltb level-bits 4294967296 (fit-bits kind e l t .1)))
-      queue-front true p true q c =
+    module _ {bits : ℕ} (front : frontFits kind ws ≡ true) (e : Gathered 33 (λ (n : ℕ). n) 4 ws numbers bits count)
+        (unset : thresholdCount kind count ≡ 0 → levels ≡ replicate 16 0) where
+      queue-front : (y : Bool) → ltb bits 8589934592 ≡ y → (z : Bool) → levelsFit (thresholdCount kind count) ws ≡ z
+          → ((y && z) ≡ true → take (thresholdCount kind count) levels ≡ numbersAt 12 (thresholdCount kind count) ws)
+          → shown ≡ cond (y && z) count 17 → QueueLoaded
+      queue-front false p z q l c = queue-past c (λ t. false≢true (sym p ∙ lt-ltb bits 8589934592 (fit-bits kind e t)))
+      queue-front true p false q l c = queue-past c (λ t. false≢true (sym q ∙ fits-entries kind t .1))
+      queue-front true p true q l c =
           let y = ltb-true bits 8589934592 p in
-          let z = ltb-true level-bits 4294967296 q in
-          rw c (part-fits (bits-fit kind e l front y z) (queue-listed kind e l (front-few kind ws front) unset y z))
+          rw c (part-fits (bits-fit kind e front y q) (queue-listed kind e (front-few kind ws front) unset y q (l refl)))
 
-    pub queue-part : (fits : Bool) → fits ≡ frontFits kind ws → {m bits level-bits : ℕ} {some-fit all-fit : Bool} → m ≡ cond fits count 0
-        → Gathered 33 (λ (n : ℕ). n) 4 ws numbers bits m → Gathered 32 (λ (n : ℕ). n) 12 ws levels level-bits (thresholdCount kind m)
+    pub queue-part : (fits : Bool) → fits ≡ frontFits kind ws → {m bits : ℕ} {some-fit all-fit : Bool} → m ≡ cond fits count 0
+        → Gathered 33 (λ (n : ℕ). n) 4 ws numbers bits m → Leveled some-fit ws levels all-fit (thresholdCount kind m)
         → (thresholdCount kind m ≡ 0 → levels ≡ replicate 16 0) → some-fit ≡ (fits && ltb bits 8589934592)
-        → all-fit ≡ (some-fit && ltb level-bits 4294967296) → shown ≡ cond all-fit m 17 → QueueLoaded
-    queue-part false f {m} {bits} {level-bits} n e l unset g h c =
-        queue-past (c ∙ ap (λ (y : Bool). cond y m 17) (h ∙ ap (λ (y : Bool). y && ltb level-bits 4294967296) g)) (queue-unfit kind (sym f))
-    queue-part true f {m} {bits} {level-bits} n e l unset g h c =
-        queue-front (sym f) (rw n at e) (rw n at l) (rw n at unset) (ltb bits 8589934592) refl (ltb level-bits 4294967296) refl
-        (c ∙ ap₂ (λ (y : Bool) (k : ℕ). cond y k 17) (h ∙ ap (λ (y : Bool). y && ltb level-bits 4294967296) g) n)
+        → shown ≡ cond all-fit m 17 → QueueLoaded
+    queue-part false f {m} n e l unset g c =
+        queue-past (c ∙ ap (λ (y : Bool). cond y m 17) (l .tested ∙ ap (λ (y : Bool). y && levelsFit (thresholdCount kind m) ws) g)) (queue-unfit kind (sym f))
+    queue-part true f {m} {bits} n e l unset g c =
+        let r = rw (n, g) at l in
+        queue-front (sym f) (rw n at e) (rw n at unset) (ltb bits 8589934592) refl (levelsFit (thresholdCount kind count) ws) refl
+        (λ t. r .stored (r .tested ∙ t)) (c ∙ ap₂ (λ (y : Bool) (k : ℕ). cond y k 17) (r .tested) n)
 
   -- the same of the name
   pub size-most : (fits : Bool) → fits ≡ leb (getD ws 3 0) 44 → cond fits (getD ws 3 0) 0 ≤ 44
@@ -345,7 +369,10 @@ module _ (ws : List ℕ) where
   size-most false e = omega arith
 
   abbrev named : List ℕ
-  named = numbersAt 20 (getD ws 3 0) ws
+  named = nameIn ws
+
+  abbrev made : Option (List Edition)
+  made = editionsIn (kindBy named) ws
 
   module _ (bytes : List ℕ) (shown : ℕ) (long : length bytes ≡ 44) where
     abbrev NameLoaded : Type 0
@@ -370,59 +397,75 @@ module _ (ws : List ℕ) where
         name-front (sym f) (rw n at e) (ltb bits 256) refl (c ∙ ap₂ (λ (y : Bool) (k : ℕ). cond y k 45) g n)
 
   -- the numbers of a sound channel fit
-  sound-fits : isSound (viewOf ws) ≡ true → (queueFits (kindBy named) ws ≡ true) × (nameFits ws ≡ true)
+  record Fit : Type 0 where
+    queue : queueFits (kindBy named) ws ≡ true
+    name : nameFits ws ≡ true
+    editions : editionsKept (kindBy named) made ≡ true
+
+  sound-fits : isSound (viewOf ws) ≡ true → Fit
   unfolding viewOf
-  sound-fits e = go (stateAt (getD ws 0 0)) refl e
+  sound-fits e = go (stateAt (getD ws 0 0)) refl made refl e
     where
-      told : (state : State) → getD ws 0 0 ≤ 4 → thresholdsFit (viewWith ws state) ≡ true → sound (viewWith ws state) ≡ true
-          → (queueFits (kindBy named) ws ≡ true) × (nameFits ws ≡ true)
-      told state within t e =
+      told : (state : State) (es : List Edition) → getD ws 0 0 ≤ 4 → made ≡ some es → sound (viewWith ws state es) ≡ true → Fit
+      told state es within is e =
           let kind : Kind = kindBy named in
-          let f = sound-facts (viewWith ws state) e in
+          let v : View = viewWith ws state es in
+          let f = sound-facts v e in
           let range : firstAbove (lastAt (getD ws 1 0)) ≤ 4294967296 = f .in-range in
           let last : getD ws 1 0 ≤ 4294967296 = omega (arith, range, above-is (getD ws 1 0)) in
-          let few : count ≤ most kind = rw (entries-count count ws kind) at (sound-few (viewWith ws state) e) in
+          let few : count ≤ most kind = rw (entries-count count ws kind) at (sound-few v e) in
           let size : getD ws 3 0 ≤ 44 = rw (numbers-count 20 (getD ws 3 0) ws) at (name-fits named (f .named)) in
           let small : Small (ids (map entryAt (numbersAt 4 count ws))) = rw (entries-ids count ws kind) at (small-by (ids (entriesAt kind count ws)) (held-small f)) in
           let entries : all isEntry (numbersAt 4 count ws) ≡ true = small-entries (numbersAt 4 count ws) small in
-          let bytes : all isByte named ≡ true = all-of isValue isByte value-byte named (S.name-fits named (f .named) .values) in (
-            queue-fits kind (rw (le-leb (getD ws 0 0) 4 within, le-leb (getD ws 1 0) 4294967296 last, le-leb count (most kind) few, entries)) t,
-            rw (le-leb (getD ws 3 0) 44 size, bytes),
-          )
+          let bytes : all isByte named ≡ true = all-of isValue isByte value-byte named (S.name-fits named (f .named) .values) in
+          record {
+            queue = queue-fits kind (rw (le-leb (getD ws 0 0) 4 within, le-leb (getD ws 1 0) 4294967296 last, le-leb count (most kind) few, entries)) (f .thresholds-fit);
+            name = rw (le-leb (getD ws 3 0) 44 size, bytes);
+            editions = ap (editionsKept kind) is ∙ ap (λ (k : Kind). areEditions k es) (sym (named-kind named (f .named))) ∙ f .editions-fit;
+          }
 
-      go : (o : Option State) → stateAt (getD ws 0 0) ≡ o → isSound (viewAt ws o) ≡ true → (queueFits (kindBy named) ws ≡ true) × (nameFits ws ≡ true)
-      go none p = λ e. absurd (false≢true e)
-      go (some state) p =
-          choose (λ (o : Option View). isSound o ≡ true → (queueFits (kindBy named) ws ≡ true) × (nameFits ws ≡ true)) (thresholdsFit (viewWith ws state))
-          (λ t e. told state (state-within (getD ws 0 0) state p) t e)
-          (λ t e. absurd (false≢true e))
+      go : (o : Option State) → stateAt (getD ws 0 0) ≡ o → (es : Option (List Edition)) → made ≡ es → isSound (viewAt ws o es) ≡ true → Fit
+      go none p es q e = absurd (false≢true e)
+      go (some state) p none q e = absurd (false≢true e)
+      go (some state) p (some es) q e = told state es (state-within (getD ws 0 0) state p) q e
 
   -- the parts are those of the channel that the numbers are, or numbers and channel are not sound
   module _ (last : LastId) (c : Channel)
       (n : LoadsPart (nameFits ws) named 44 (nameOf (c .name)))
       (q : LoadsPart (queueFits (kindBy (nameOf (c .name))) ws) (entriesAt (kindBy (nameOf (c .name))) count ws) 16 (listOf (c .queue)))
-      (s : getD ws 0 0 ≤ 4 → stateAt (getD ws 0 0) ≡ some (c .state)) (l : getD ws 1 0 ≤ 4294967296 → last ≡ lastAt (getD ws 1 0)) where
-    neither : isSound (viewOf ws) ≡ false → sound (view last c) ≡ false → Loads ws (record { last = last; channel = c })
-    neither e f = record { soundness = e ∙ sym f; same = λ z. absurd (false≢true (sym e ∙ z)) }
+      (s : getD ws 0 0 ≤ 4 → stateAt (getD ws 0 0) ≡ some (c .state)) (l : getD ws 1 0 ≤ 4294967296 → last ≡ lastAt (getD ws 1 0))
+      (m : LoadsPart (editionsKept (kindBy (nameOf (c .name))) (editionsIn (kindBy (nameOf (c .name))) ws))
+      (orNone (editionsIn (kindBy (nameOf (c .name))) ws)) 4 (editionsOf (c .editions))) where
+    neither : (Fit → ⊥) → (sound (view last c) ≡ true → ⊥) → Loads ws (record { last = last; channel = c })
+    neither e f =
+        let none : isSound (viewOf ws) ≡ false = refuted (isSound (viewOf ws)) (λ z. e (sound-fits z)) in
+        record { soundness = none ∙ sym (refuted (sound (view last c)) f); same = λ z. absurd (false≢true (sym none ∙ z)) }
+
+    told-editions : (o : Option (List Edition)) → editionsKept (kindBy named) o ≡ true → o ≡ some (orNone o)
+    told-editions none e = absurd (false≢true e)
+    told-editions (some es) e = refl
 
     pub loads : Loads ws (record { last = last; channel = c })
     unfolding viewOf
-    loads = go (nameFits ws) refl (queueFits (kindBy named) ws) refl
+    loads = go (nameFits ws) refl (queueFits (kindBy named) ws) refl (editionsKept (kindBy named) made) refl
       where
-        go : (a : Bool) → nameFits ws ≡ a → (b : Bool) → queueFits (kindBy named) ws ≡ b → Loads ws (record { last = last; channel = c })
-        go false f b e = neither (refuted (isSound (viewOf ws)) (λ z. false≢true (sym f ∙ sound-fits z .1)))
-            (refuted (sound (view last c)) (λ z. omega (arith, name-fits (nameOf (c .name)) (sound-facts (view last c) z .named), n .unfit f)))
-        go true f false e =
+        go : (a : Bool) → nameFits ws ≡ a → (b : Bool) → queueFits (kindBy named) ws ≡ b → (d : Bool) → editionsKept (kindBy named) made ≡ d
+            → Loads ws (record { last = last; channel = c })
+        go false f b e d g = neither (λ z. false≢true (sym f ∙ z .name))
+            (λ z. omega (arith, name-fits (nameOf (c .name)) (sound-facts (view last c) z .named), n .unfit f))
+        go true f false e d g =
             let many : 16 < length (listOf (c .queue)) = rw (n .fit f) at q .unfit e in
-            neither (refuted (isSound (viewOf ws)) (λ z. false≢true (sym e ∙ sound-fits z .0)))
-            (refuted (sound (view last c)) (λ z. omega (arith, sound-facts (view last c) z .few, most-16 (kind (view last c)), many)))
-        go true f true e =
+            neither (λ z. false≢true (sym e ∙ z .queue))
+            (λ z. omega (arith, sound-facts (view last c) z .few, most-16 (kind (view last c)), many))
+        go true f true e false g =
+            let more : 4 < length (editionsOf (c .editions)) = rw (n .fit f) at m .unfit g in
+            neither (λ z. false≢true (sym g ∙ z .editions)) (λ z. omega (arith, sound-four (view last c) z, more))
+        go true f true e true g =
             let p = fits-entries (kindBy named) e in
             let front = front-facts (kindBy named) ws (both (frontFits (kindBy named) ws) (all isEntry (numbersAt 4 count ws)) (p .0) .0) in
             let listed : listOf (c .queue) ≡ entriesAt (kindBy named) count ws = rw (n .fit f) at q .fit e in
-            let same : view last c ≡ viewWith ws (c .state) = λ i. record { name = n .fit f i; state = c .state; queue = listed i; last = l (front .last) i } in
-            let is : viewOf ws ≡ some (view last c) =
-            ap (viewAt ws) (s (front .state))
-            ∙ fit-some (viewWith ws (c .state)) (p .1)
-            ∙ ap some (sym same) in
+            let kept : editionsOf (c .editions) ≡ orNone made = rw (n .fit f) at m .fit g in
+            let same : view last c ≡ viewWith ws (c .state) (orNone made) =
+            λ i. record { name = n .fit f i; state = c .state; queue = listed i; last = l (front .last) i; editions = kept i } in
+            let is : viewOf ws ≡ some (view last c) = ap₂ (viewAt ws) (s (front .state)) (told-editions made g) ∙ ap some (sym same) in
             record { soundness = ap isSound is; same = λ z. is }

@@ -1,17 +1,37 @@
-// A channel loaded from the 64 numbers that a C caller keeps, whatever they are. include/klarvesimo.h is the manual of
-// their places. Numbers that no sound channel has become a queue of 17 or a name of 45 bytes, so a channel that is not
-// sound: there is no flag to look at. The name comes first: its kind says what the queue's numbers are.
+// A channel loaded from the 89 numbers that a C caller keeps, whatever they are. include/klarvesimo.h is the manual of
+// their places. Numbers that no sound channel has become a queue of 17, a name of 45 bytes or five editions, so a channel
+// that is not sound: there is no flag to look at. The name comes first: its kind says what the other numbers are.
 ghost use mathlib.Core.Path.{_≡_};
-ghost use mathlib.Core.Bool.{_&&_, cond};
+ghost use mathlib.Core.Bool.{true, _&&_, cond};
 ghost use mathlib.Core.Option.{some};
-ghost use Prim.Native.Nat.{_≤_, _<_};
-ghost use lib.Dec.{ltb};
+ghost use Prim.Native.Nat.{_+_, _≤_, _<_};
+ghost use lib.Dec.{leb, ltb};
 ghost use lib.ListN.{getD};
+ghost use Rattle.synth.specs.Settings.{settings};
 ghost use Rattle.queue.specs.Queue.{listOf};
 ghost use Rattle.channelnames.specs.Names.{nameOf};
-ghost use Rattle.channelnumbers.specs.Numbers.{stateAt, lastAt, numbersAt, entriesAt};
+ghost use Rattle.settings.specs.Kept.{editionsOf};
+ghost use Rattle.channelnumbers.specs.Numbers.{
+  stateAt,
+  lastAt,
+  numbersAt,
+  entriesAt,
+  settingAt,
+  editionFrom,
+  editionsIn,
+};
 ghost use Rattle.loading.specs.Loading.{Loads};
-ghost use Rattle.loading.specs.Steps.{frontFits, queueFits, nameFits, LoadsPart};
+ghost use Rattle.loading.specs.Steps.{
+  frontFits,
+  queueFits,
+  nameFits,
+  isOwn,
+  editionKept,
+  editionsKept,
+  orNone,
+  Read,
+  LoadsPart,
+};
 
 // The channel, and the last id seen on it.
 pub struct Loaded {
@@ -19,10 +39,17 @@ pub struct Loaded {
     pub channel: channel::Channel,
 }
 
-// A count and a size that no sound channel has.
+// Counts and a size that no sound channel has.
 const TOO_MANY: usize = queue::MOST + 1;
 
+const TOO_MANY_EDITIONS: usize = settings::MOST + 1;
+
 const TOO_LONG: usize = channelnames::LONGEST + 1;
+
+// Above the millionths of a level, and above what 19 digits write.
+const LEVELS_END: u64 = 1000001;
+
+const MILLIS_END: u64 = 10000000000000000000;
 
 // The threshold and the byte with a number, below 2^32 and below 2^8; a greater one is none's.
 fn threshold_at(n: u64) -> u32
@@ -61,7 +88,7 @@ fn last_at(n: u64) -> synth::LastId
 }
 
 // Whether state, last id and count are within their ranges.
-fn front_fits(kind: answer::Kind, ws: &[u64; 64]) -> bool
+fn front_fits(kind: answer::Kind, ws: &[u64; 89]) -> bool
     ensures { λ r. ⌜ r ≡ frontFits kind (now (ws .entry)) ⌝ }
 {
     if 4 < ws[0] {
@@ -103,9 +130,9 @@ fn count_loaded(fits: bool, n: usize, past: usize) -> usize
     past
 }
 
-// Numbers are judged by all their bits at the end, so that no loop has a test, and the queue is built once: each place
-// where one is built costs a copy. The loop over the thresholds has no turn on a synthesizer.
-fn load_queue(kind: answer::Kind, ws: &[u64; 64]) -> queue::Queue
+// The requests are judged by all their bits at the end, so that their loop has no test, and the queue is built once:
+// each place where one is built costs a copy. The loop over the thresholds has no turn on a synthesizer.
+fn load_queue(kind: answer::Kind, ws: &[u64; 89]) -> queue::Queue
     ensures { λ r. ⌜ LoadsPart (queueFits kind (now (ws .entry)))
         (entriesAt kind (getD (now (ws .entry)) 2 0) (now (ws .entry))) 16 (listOf r) ⌝ }
 {
@@ -123,15 +150,14 @@ fn load_queue(kind: answer::Kind, ws: &[u64; 64]) -> queue::Queue
     let entries_fit = fits_below(fits, bits, 8589934592);
     let levels = channelnumbers::threshold_count(kind, count);
     let mut thresholds = [0u32; queue::MOST];
-    let mut level_bits: u64 = 0;
+    let mut all_fit = entries_fit;
     let mut j: usize = 0;
     while j < levels {
         let n = ws[channelnumbers::THRESHOLDS_AT + j];
-        level_bits = level_bits | n;
+        all_fit = fits_below(all_fit, n, LEVELS_END);
         thresholds[j] = threshold_at(n);
         j += 1;
     }
-    let all_fit = fits_below(entries_fit, level_bits, 4294967296);
     queue::Queue {
         numbers,
         thresholds,
@@ -139,7 +165,7 @@ fn load_queue(kind: answer::Kind, ws: &[u64; 64]) -> queue::Queue
     }
 }
 
-fn load_name(ws: &[u64; 64]) -> channelnames::Name
+fn load_name(ws: &[u64; 89]) -> channelnames::Name
     ensures { λ r. ⌜ LoadsPart (nameFits (now (ws .entry)))
         (numbersAt 20 (getD (now (ws .entry)) 3 0) (now (ws .entry))) 44 (nameOf r) ⌝ }
 {
@@ -161,8 +187,129 @@ fn load_name(ws: &[u64; 64]) -> channelnames::Name
     }
 }
 
-// The channel that the numbers are, or one that is not sound. Those past the count and past the size are not looked at.
-pub fn load(ws: &[u64; 64]) -> Loaded
+// Whether the sort and the value in these places are those of a setting that is unset, or is of sort `own` with a value
+// below `end`.
+fn setting_fits(fits: bool, own: u64, end: u64, at: usize, ws: &[u64; 89]) -> bool
+    requires { ⌜ at ≤ 87 ⌝ }
+    ensures { λ r. ⌜ r ≡ (fits && isOwn own end (getD (now (ws .entry)) at 0) (getD (now (ws .entry)) (at + 1) 0)) ⌝ }
+{
+    if !fits {
+        return false;
+    }
+    if ws[at] == own {
+        return ws[at + 1] < end;
+    }
+    ws[at] == 0
+}
+
+fn level_at(value: u64) -> synth::Setting
+    ensures { λ r. ⌜ (value ≤ 1000000 → settingAt 3 value ≡ some r) ⌝ }
+{
+    let millionths = threshold_at(value);
+    let single = levels::single(millionths);
+    synth::Setting::Level(synth::Level { millionths, single })
+}
+
+// The setting of a sort and a value that fit; others are none's.
+fn setting_at(sort: u64, value: u64) -> synth::Setting
+    ensures { λ r. ⌜ Read (settingAt sort value) r ⌝ }
+{
+    match sort {
+        0 => synth::Setting::Unset,
+        1 => synth::Setting::Flag(value == 1),
+        2 => synth::Setting::Millis(value),
+        _ => level_at(value),
+    }
+}
+
+fn setting_in(at: usize, ws: &[u64; 89]) -> synth::Setting
+    requires { ⌜ at ≤ 87 ⌝ }
+    ensures { λ r. ⌜ Read (settingAt (getD (now (ws .entry)) at 0) (getD (now (ws .entry)) (at + 1) 0)) r ⌝ }
+{
+    setting_at(ws[at], ws[at + 1])
+}
+
+// Whether an edition fits, and one that does: the kind's own settings, all others unset.
+fn edition_fits(fits: bool, kind: answer::Kind, at: usize, ws: &[u64; 89]) -> bool
+    requires { ⌜ at ≤ 83 ⌝ }
+    ensures { λ r. ⌜ r ≡ (fits && editionKept kind (editionFrom (settings kind) at (now (ws .entry)))) ⌝ }
+{
+    match kind {
+        answer::Kind::Synthesizer => {
+            let kill = setting_fits(fits, 1, 2, at, ws);
+            setting_fits(kill, 2, MILLIS_END, at + 2, ws)
+        }
+        answer::Kind::Recognizer => {
+            let silence = setting_fits(fits, 2, MILLIS_END, at, ws);
+            let confidence = setting_fits(silence, 3, LEVELS_END, at + 2, ws);
+            setting_fits(confidence, 3, LEVELS_END, at + 2 + 2, ws)
+        }
+    }
+}
+
+fn edition_in(kind: answer::Kind, at: usize, ws: &[u64; 89]) -> synth::Edition
+    requires { ⌜ at ≤ 83 ⌝ }
+    ensures { λ r. ⌜ (editionKept kind (editionFrom (settings kind) at (now (ws .entry))) ≡ true
+        → editionFrom (settings kind) at (now (ws .entry)) ≡ some r) ⌝ }
+{
+    match kind {
+        answer::Kind::Synthesizer => {
+            let kill = setting_in(at, ws);
+            let fetch = setting_in(at + 2, ws);
+            synth::Edition {
+                kill,
+                fetch,
+                ..settings::UNSET
+            }
+        }
+        answer::Kind::Recognizer => {
+            let silence = setting_in(at, ws);
+            let confidence = setting_in(at + 2, ws);
+            let sensitivity = setting_in(at + 2 + 2, ws);
+            synth::Edition {
+                silence,
+                confidence,
+                sensitivity,
+                ..settings::UNSET
+            }
+        }
+    }
+}
+
+// Whether so many editions can be kept.
+fn editions_fit(n: u64) -> bool
+    ensures { λ r. ⌜ r ≡ (leb 1 n && leb n 4) ⌝ }
+{
+    if n == 0 {
+        return false;
+    }
+    n <= settings::MOST as u64
+}
+
+fn load_editions(kind: answer::Kind, ws: &[u64; 89]) -> settings::Editions
+    ensures { λ r. ⌜ LoadsPart (editionsKept kind (editionsIn kind (now (ws .entry))))
+        (orNone (editionsIn kind (now (ws .entry)))) 4 (editionsOf r) ⌝ }
+{
+    let n = ws[channelnumbers::EDITIONS_AT];
+    let fits = editions_fit(n);
+    let count = count_where(fits, n);
+    let mut list = [settings::UNSET; settings::MOST];
+    let mut all_fit = fits;
+    let mut i: usize = 0;
+    while i < count {
+        let at = channelnumbers::SETTINGS_AT + i * channelnumbers::EDITION_NUMBERS;
+        all_fit = edition_fits(all_fit, kind, at, ws);
+        list[i] = edition_in(kind, at, ws);
+        i += 1;
+    }
+    settings::Editions {
+        list,
+        count: count_loaded(all_fit, count, TOO_MANY_EDITIONS),
+    }
+}
+
+// The channel that the numbers are, or one that is not sound. Those past the counts and past the size are not looked at.
+pub fn load(ws: &[u64; 89]) -> Loaded
     ensures { λ r. ⌜ Loads (now (ws .entry)) r ⌝ }
 {
     let name = load_name(ws);
@@ -170,6 +317,12 @@ pub fn load(ws: &[u64; 64]) -> Loaded
     let queue = load_queue(kind, ws);
     let state = state_at(ws[0]);
     let last = last_at(ws[1]);
-    let channel = channel::Channel { name, state, queue };
+    let editions = load_editions(kind, ws);
+    let channel = channel::Channel {
+        name,
+        queue,
+        state,
+        editions,
+    };
     Loaded { last, channel }
 }

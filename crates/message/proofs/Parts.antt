@@ -1,6 +1,7 @@
 -- A part that lies in the first n bytes is the same part of those bytes alone; and so are all parts of a message that was read.
 -- Assumes nothing.
 use mathlib.Core.Path.{_≡_, refl, ap, ap₂}
+use mathlib.Core.Bool.{Bool}
 use mathlib.Core.List.{List, [], _∷_, map}
 use Prim.Native.Nat.{ℕ, zero, suc, _+_, _≤_}
 use native.Mathlib.Omega.{arith}
@@ -12,6 +13,7 @@ use Rattle.message.specs.Message.{part, onStart, onField, onFields, onRe
 use Rattle.message.specs.declared.Span.{Span}
 use Rattle.message.proofs.StartLine.{Named}
 use Rattle.message.proofs.Rows.{Rows, rows-end}
+use Rattle.message.specs.Reading.{asksParams}
 use Rattle.message.proofs.Says.{Judged, Told, frame-length}
 
 take-within : (at m n : ℕ) (s : List ℕ) → at + m ≤ n → take m (drop at (take n s)) ≡ take m (drop at s)
@@ -41,9 +43,9 @@ module _ (n : ℕ) (s : List ℕ) where
   start-within k at (response i c r) h l = refl
   start-within k at (event p i r) h l = ap (λ m. event m i r) (part-within n s p (omega arith))
 
-  fields-within : (at : ℕ) (fs : Fields Span) → length (take n s) ≡ n → Judged (take n s) at fs → onFields (part (take n s)) fs ≡ onFields (part s) fs
-  fields-within at bad e h = refl
-  fields-within at (good fs b) e h =
+  fields-within : (params : Bool) (at : ℕ) (fs : Fields Span) → length (take n s) ≡ n → Judged params (take n s) at fs → onFields (part (take n s)) fs ≡ onFields (part s) fs
+  fields-within params at bad e h = refl
+  fields-within params at (good fs b) e h =
       ap₂ good (rows-within at fs (b .start) (h .rows) (omega (arith, h .ends))) (part-within n s b (omega (arith, h .ends)))
 
 pub reading-within : (s : List ℕ) (r : Reading Span) → Told s r → onReading (part (take (frameLength (framing s)) s)) r ≡ onReading (part s) r
@@ -51,4 +53,4 @@ reading-within s (refused j c) h = refl
 reading-within s (message h st fs) t =
     let e = t .frame in
     rw (ap frameLength e) (ap₂ (message h) (start-within (h .stated) s (t .k) (t .at) st (t .named) (t .inside))
-    (fields-within (h .stated) s (t .at) fs (frame-length s _ _ _ _ e) (t .fields)))
+    (fields-within (h .stated) s (asksParams (take (h .stated) s) st) (t .at) fs (frame-length s _ _ _ _ e) (t .fields)))

@@ -18,7 +18,7 @@ use Rattle.message.specs.Message.{InRange, part, onField, onReading}
 use Rattle.message.specs.StartLines.{Started, started, startLine}
 use Rattle.message.specs.Fields.{Lines, lines, fieldLines}
 use Rattle.message.specs.Known.{onceEach, namesOf, judgedValue}
-use Rattle.message.specs.Reading.{agrees, judged, fieldsFrom, readFrom, readFramed, reading, readBytes}
+use Rattle.message.specs.Reading.{agrees, asksParams, judged, fieldsFrom, readFrom, readFramed, reading, readBytes}
 use Rattle.message.specs.declared.Span.{Span}
 use Rattle.message.specs.declared.Known.the-variants.{ContentLength}
 use Rattle.message.proofs.StartLine.{Named, Begun, start-line}
@@ -26,36 +26,36 @@ use Rattle.message.proofs.Rows.{Rows, NameFits, Laid, laid}
 use Rattle.message.proofs.Values.{Hold, hold}
 
 -- fields from `at` on in a frame f, and a body, that judgement 2 lets pass
-pub record Passed (f : List ℕ) (at : ℕ) (fs : List (Field Span)) (body : Span) : Type 0 where
+pub record Passed (params : Bool) (f : List ℕ) (at : ℕ) (fs : List (Field Span)) (body : Span) : Type 0 where
   pub rows : Rows at fs (body .start)
   pub ends : body .start + body .len ≡ length f
   pub few : length fs ≤ 32
   pub names : All NameFits fs
-  pub once : onceEach (namesOf (map (onField (part f)) fs)) ≡ true
+  pub once : onceEach params (namesOf (map (onField (part f)) fs)) ≡ true
   pub agreed : agrees (judgedValue ContentLength (map (onField (part f)) fs)) (body .len) ≡ true
   pub values : Hold f (lines fs (body .start))
 
-abbrev pub Judged : List ℕ → ℕ → Fields Span → Type 0
-Judged f at bad = Unit {0}
-Judged f at (good fs body) = Passed f at fs body
+abbrev pub Judged : Bool → List ℕ → ℕ → Fields Span → Type 0
+Judged params f at bad = Unit {0}
+Judged params f at (good fs body) = Passed params f at fs body
 
-judged-lines : (f : List ℕ) (at : ℕ) (l : Lines) → Laid 32 at (length f) l → Hold f l → Judged f at (judged f l)
-judged-lines f at Lines.malformed h v = tt
-judged-lines f at (lines fs b) (r, l, n, names) v = go (onceIn && agreesIn) refl
+judged-lines : (params : Bool) (f : List ℕ) (at : ℕ) (l : Lines) → Laid 32 at (length f) l → Hold f l → Judged params f at (judged params f l)
+judged-lines params f at Lines.malformed h v = tt
+judged-lines params f at (lines fs b) (r, l, n, names) v = go (onceIn && agreesIn) refl
   where
     onceIn : Bool
-    onceIn = onceEach (namesOf (map (onField (part f)) fs))
+    onceIn = onceEach params (namesOf (map (onField (part f)) fs))
 
     agreesIn : Bool
     agreesIn = agrees (judgedValue ContentLength (map (onField (part f)) fs)) (length f - b)
 
-    go : (t : Bool) → (onceIn && agreesIn) ≡ t → Judged f at (judged f (lines fs b))
+    go : (t : Bool) → (onceIn && agreesIn) ≡ t → Judged params f at (judged params f (lines fs b))
     go true e = rw (e, judged) (let (o, a) = both onceIn agreesIn e in record { rows = r; ends = omega arith; few = n; names = names; once = o; agreed = a; values = v })
     go false e = rw (e, judged) tt
 
-pub fields-from : (f : List ℕ) (at : ℕ) → Judged f at (fieldsFrom f at)
+pub fields-from : (params : Bool) (f : List ℕ) (at : ℕ) → Judged params f at (fieldsFrom params f at)
 unfolding fieldsFrom
-fields-from f at = judged-lines f at (fieldLines 32 f at) (laid 32 f at) (hold f 32 at)
+fields-from params f at = judged-lines params f at (fieldLines 32 f at) (laid 32 f at) (hold f 32 at)
 
 -- a message with an opening of k bytes, and fields from `at` on
 pub record Says (s : List ℕ) (h : Head) (st : Start Span) (fs : Fields Span) : Type 0 where
@@ -65,7 +65,7 @@ pub record Says (s : List ℕ) (h : Head) (st : Start Span) (fs : Fields Span) :
   pub named : Named k st at
   pub ranged : InRange st
   pub inside : at ≤ h .stated
-  pub fields : Judged (take (h .stated) s) at fs
+  pub fields : Judged (asksParams (take (h .stated) s) st) (take (h .stated) s) at fs
 
 -- the same of all that reading can give
 abbrev pub Told : List ℕ → Reading Span → Type 0
@@ -86,7 +86,7 @@ told-started s h k e (started st at) (n, i, l) = record {
   named = n;
   ranged = i;
   inside = omega (arith, frame-length s (h .major) (h .minor) k (h .stated) e);
-  fields = fields-from (take (h .stated) s) at;
+  fields = fields-from (asksParams (take (h .stated) s) st) (take (h .stated) s) at;
 }
 
 told-framed : (s : List ℕ) (x : Framing) → framing s ≡ x → Told s (readFramed s x)

@@ -1,5 +1,6 @@
 -- A message's numbers at the front of a lent output. Assumes nothing.
 use mathlib.Core.Path.{_≡_, refl, sym, ap, ap₂, subst, _∙_}
+use mathlib.Core.Bool.{Bool}
 use mathlib.Core.List.{List, _++_}
 use Prim.Native.Nat.{ℕ, _+_, _*_, _≤_, _<_}
 use native.Mathlib.Omega.{arith}
@@ -39,24 +40,24 @@ pub record Read (h : Header) (places : List ℕ) (x : Fields Span) : Type 0 wher
   pub room : length places ≡ 128
   pub numbers : take (4 * h .count) places ≡ fieldNumbers (fieldsIn x)
 
-read-one : (f : List ℕ) (at : ℕ) (places : List ℕ) (x : Fields Span) → Judged f at x → Kept lent x places
+read-one : (params : Bool) (f : List ℕ) (at : ℕ) (places : List ℕ) (x : Fields Span) → Judged params f at x → Kept lent x places
     → Read (headerOf f x) places x
-read-one f at places bad j k = record { few = omega arith; room = k; numbers = refl }
-read-one f at places (good fs body) j k = record {
+read-one params f at places bad j k = record { few = omega arith; room = k; numbers = refl }
+read-one params f at places (good fs body) j k = record {
   few = j .few;
   room = ap length k ∙ kept-length lent fs;
   numbers = ap (take (4 * length fs)) (k ∙ kept-all lent fs (omega (arith, j .few)))
       ∙ take-at (fieldNumbers fs) (drop (4 * length fs) lent) (4 * length fs) (numbers-length fs);
 }
 
-module _ (f : List ℕ) (at major minor : ℕ) (n : StartNumbers) (h : Header) (places : List ℕ)
-    (e : (h ≡ headerOf f (fieldsFrom f at)) × Kept lent (fieldsFrom f at) places) where
-  pub was-read : Read h places (fieldsFrom f at)
-  was-read = subst (λ h. Read h places (fieldsFrom f at)) (sym (e .0))
-      (read-one f at places (fieldsFrom f at) (fields-from f at) (e .1))
+module _ (params : Bool) (f : List ℕ) (at major minor : ℕ) (n : StartNumbers) (h : Header) (places : List ℕ)
+    (e : (h ≡ headerOf f (fieldsFrom params f at)) × Kept lent (fieldsFrom params f at) places) where
+  pub was-read : Read h places (fieldsFrom params f at)
+  was-read = subst (λ h. Read h places (fieldsFrom params f at)) (sym (e .0))
+      (read-one params f at places (fieldsFrom params f at) (fields-from params f at) (e .1))
 
   abbrev pub answer : List ℕ
-  answer = numbersOf major minor n ++ fieldsNumbers f (fieldsFrom f at)
+  answer = numbersOf major minor n ++ fieldsNumbers f (fieldsFrom params f at)
 
   abbrev front : List ℕ
   front = headNumbers major minor n h
@@ -71,7 +72,7 @@ module _ (f : List ℕ) (at major minor : ℕ) (n : StartNumbers) (h : Header) (
   answer-is : front ++ take (4 * h .count) places ≡ answer
   answer-is =
       ap₂ (λ (h : Header) (l : List ℕ). headNumbers major minor n h ++ l) (e .0) (was-read .numbers)
-      ∙ all-numbers (fieldsFrom f at)
+      ∙ all-numbers (fieldsFrom params f at)
 
   answer-size : length answer ≡ 16 + 4 * h .count
   answer-size =

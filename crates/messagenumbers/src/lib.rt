@@ -128,21 +128,23 @@ fn put_places(out: &mut [u64], places: &[u64], n: usize)
 }
 
 // The message's numbers at the front of `out`, or 7 where they are more than it holds. They are written when it is sure
-// that they fit and that the fields are good: until then their places stand in an array of this call.
+// that they fit and that the fields are good: until then their places stand in an array of this call. `params` is what
+// `startline::asks_params` says of the start line.
 pub fn hand_over(
     f: &[u8],
     at: usize,
+    params: bool,
     major: u64,
     minor: u64,
     n: StartNumbers,
     out: &mut [u64],
 ) -> u32
     ensures { λ r. ⌜ record { number = r; out = now (out .exit) }
-        ≡ handed (numbersOf major minor n ++ fieldsNumbers (now (f .entry)) (fieldsFrom (now (f .entry)) at))
+        ≡ handed (numbersOf major minor n ++ fieldsNumbers (now (f .entry)) (fieldsFrom params (now (f .entry)) at))
         (now (out .entry)) ⌝ }
 {
     let mut places = [0u64; 4 * header::MOST_FIELDS];
-    let h = header::read_header(f, at, &mut places);
+    let h = header::read_header(f, at, params, &mut places);
     let count = h.count;
     if out.len() < 16 + 4 * count {
         return 7;

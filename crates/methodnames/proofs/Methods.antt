@@ -1,4 +1,5 @@
--- Which method a name is, by its length and one comparison: only SPEAK and PAUSE are equally long.
+-- Which method a name is, by its length and one comparison: only SPEAK and PAUSE are equally long, and SET-PARAMS and
+-- GET-PARAMS.
 -- Assumes nothing.
 use mathlib.Core.Path.{_≡_, refl, sym, ap, _∙_}
 use mathlib.Core.Bool.{true, false}
@@ -14,7 +15,7 @@ use Rattle.synth.specs.Kinds.{methodIn}
 use Rattle.synth.specs.Request.{methodText, orElse, methodOf}
 use Rattle.synth.specs.declared.Method.{Method}
 use Rattle.synth.specs.declared.Method.the-variants.{Speak, Stop, Pause, Resume, Control, BargeInOccurred, Unknown}
-use Rattle.synth.specs.declared.Method.the-variants.{Recognize, StartInputTimers}
+use Rattle.synth.specs.declared.Method.the-variants.{Recognize, StartInputTimers, SetParams, GetParams}
 
 module _ (n : List ℕ) where
   -- the method m, where n is its name
@@ -39,6 +40,8 @@ module _ (n : List ℕ) where
         other 5 l BargeInOccurred refl,
         other 5 l Recognize refl,
         other 5 l StartInputTimers refl,
+        other 5 l SetParams refl,
+        other 5 l GetParams refl,
       )
 
   pub four : length n ≡ 4 → orNone Stop ≡ methodOf n
@@ -52,6 +55,8 @@ module _ (n : List ℕ) where
         other 4 l BargeInOccurred refl,
         other 4 l Recognize refl,
         other 4 l StartInputTimers refl,
+        other 4 l SetParams refl,
+        other 4 l GetParams refl,
       )
 
   pub six : length n ≡ 6 → orNone Resume ≡ methodOf n
@@ -65,6 +70,8 @@ module _ (n : List ℕ) where
         other 6 l BargeInOccurred refl,
         other 6 l Recognize refl,
         other 6 l StartInputTimers refl,
+        other 6 l SetParams refl,
+        other 6 l GetParams refl,
       )
 
   pub seven : length n ≡ 7 → orNone Control ≡ methodOf n
@@ -78,6 +85,8 @@ module _ (n : List ℕ) where
         other 7 l BargeInOccurred refl,
         other 7 l Recognize refl,
         other 7 l StartInputTimers refl,
+        other 7 l SetParams refl,
+        other 7 l GetParams refl,
       )
 
   pub seventeen : length n ≡ 17 → orNone BargeInOccurred ≡ methodOf n
@@ -91,6 +100,8 @@ module _ (n : List ℕ) where
         other 17 l Control refl,
         other 17 l Recognize refl,
         other 17 l StartInputTimers refl,
+        other 17 l SetParams refl,
+        other 17 l GetParams refl,
       )
 
   pub nine : length n ≡ 9 → orNone Recognize ≡ methodOf n
@@ -104,6 +115,8 @@ module _ (n : List ℕ) where
         other 9 l Control refl,
         other 9 l BargeInOccurred refl,
         other 9 l StartInputTimers refl,
+        other 9 l SetParams refl,
+        other 9 l GetParams refl,
       )
 
   pub eighteen : length n ≡ 18 → orNone StartInputTimers ≡ methodOf n
@@ -117,12 +130,34 @@ module _ (n : List ℕ) where
         other 18 l Control refl,
         other 18 l BargeInOccurred refl,
         other 18 l Recognize refl,
+        other 18 l SetParams refl,
+        other 18 l GetParams refl,
       )
 
-  pub none : (length n ≡ 4 → ⊥) → (length n ≡ 5 → ⊥) → (length n ≡ 6 → ⊥) → (length n ≡ 7 → ⊥)
-      → (length n ≡ 9 → ⊥) → (length n ≡ 17 → ⊥) → (length n ≡ 18 → ⊥) → Unknown ≡ methodOf n
+  ten : length n ≡ 10 → orElse (same n (methodText SetParams)) SetParams (orNone GetParams) ≡ methodOf n
   unfolding methodOf
-  none h4 h5 h6 h7 h9 h17 h18 =
+  ten l =
+      simp (
+        other 10 l Speak refl,
+        other 10 l Stop refl,
+        other 10 l Pause refl,
+        other 10 l Resume refl,
+        other 10 l Control refl,
+        other 10 l BargeInOccurred refl,
+        other 10 l Recognize refl,
+        other 10 l StartInputTimers refl,
+      )
+
+  pub is-set : length n ≡ 10 → same n (methodText SetParams) ≡ true → SetParams ≡ methodOf n
+  is-set l e = sym (ap (λ b. orElse b SetParams (orNone GetParams)) e) ∙ ten l
+
+  pub no-set : length n ≡ 10 → same n (methodText SetParams) ≡ false → orNone GetParams ≡ methodOf n
+  no-set l e = sym (ap (λ b. orElse b SetParams (orNone GetParams)) e) ∙ ten l
+
+  pub none : (length n ≡ 4 → ⊥) → (length n ≡ 5 → ⊥) → (length n ≡ 6 → ⊥) → (length n ≡ 7 → ⊥)
+      → (length n ≡ 9 → ⊥) → (length n ≡ 10 → ⊥) → (length n ≡ 17 → ⊥) → (length n ≡ 18 → ⊥) → Unknown ≡ methodOf n
+  unfolding methodOf
+  none h4 h5 h6 h7 h9 h10 h17 h18 =
       simp (
         same-lengths n (methodText Speak) h5,
         same-lengths n (methodText Stop) h4,
@@ -132,6 +167,8 @@ module _ (n : List ℕ) where
         same-lengths n (methodText BargeInOccurred) h17,
         same-lengths n (methodText Recognize) h9,
         same-lengths n (methodText StartInputTimers) h18,
+        same-lengths n (methodText SetParams) h10,
+        same-lengths n (methodText GetParams) h10,
       )
 
 -- a method that a kind has

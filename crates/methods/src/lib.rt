@@ -1,12 +1,14 @@
 // What a request does that passed judgement 5, method by method: document 01, judgements 6 to 11 and "States and
-// queue", and document 02, K1.
+// queue", and document 02, K1 and K5. SET-PARAMS and GET-PARAMS are in `params`.
 ghost use mathlib.Core.Path.{_≡_};
+ghost use mathlib.Core.Bool.{true, false};
 ghost use mathlib.Core.Option.{some};
 ghost use Prim.Native.Nat.{_≤_};
 ghost use lib.ListN.{length};
 ghost use Rattle.message.specs.Folds.{joined};
 ghost use Rattle.message.specs.declared.Known.the-variants.{ActiveRequestIdList};
-ghost use Rattle.synth.specs.Request.{acting, ignoresAny};
+ghost use Rattle.synth.specs.Settings.{isEditionOf};
+ghost use Rattle.synth.specs.Request.{isParams, acting, ignoresAny};
 ghost use Rattle.synth.specs.declared.Method.{Method};
 ghost use Rattle.queue.specs.Queue.{listOf};
 ghost use Rattle.request.specs.Telling.{Tells};
@@ -54,7 +56,7 @@ fn stop(
     id: u32,
 ) -> outcomes::Outcome
     ensures { λ o. ⌜ (length (listOf q) ≤ 16
-        → Acts state q Method.Stop id (λ r. Tells (now (f .entry)) h (r .fields)) o) ⌝ }
+        → Acts state q Method.Stop id (λ r. Tells false (now (f .entry)) h (r .fields)) o) ⌝ }
 {
     let ignored = values::meets(h.mask, names::IGNORED_IN_STOP);
     let list = request::value(h, message::Known::ActiveRequestIdList);
@@ -125,22 +127,24 @@ fn start_timers(state: synth::State, q: queue::Queue, id: u32, ignored: bool) ->
 }
 
 // The request `id` with the method `m`, whose fields in the frame `f` are those of the header `h`: judgements 6 to 11,
-// on a channel of this kind, with this state and queue. An array holds the ids of 16, so of a queue of more, which is not sound,
-// nothing is said.
+// on a channel of this kind, with this state and queue and the settings `set`. An array holds the ids of 16, so of a
+// queue of more, which is not sound, nothing is said; nor of settings that the kind cannot have.
 pub fn act(
     kind: answer::Kind,
     state: synth::State,
     q: queue::Queue,
+    set: synth::Edition,
     f: &[u8],
     h: header::Header,
     m: synth::Method,
     id: u32,
 ) -> outcomes::Outcome
-    ensures { λ o. ⌜ (length (listOf q) ≤ 16 → ActsOn kind state q m id (λ r. Tells (now (f .entry)) h (r .fields)) o) ⌝ }
+    ensures { λ o. ⌜ (length (listOf q) ≤ 16 → isEditionOf kind set ≡ true → isParams m ≡ false
+        → ActsOn kind set state q m id (λ r. Tells false (now (f .entry)) h (r .fields)) o) ⌝ }
 {
     let ignored = values::meets(h.mask, names::IGNORED_ELSEWHERE);
     match m {
-        synth::Method::Speak => speak::speak(kind, state, q, f, h, id),
+        synth::Method::Speak => speak::speak(kind, state, q, set, f, h, id),
         synth::Method::Stop => stop(state, q, f, h, id),
         synth::Method::Pause => pause(state, q, id, ignored),
         synth::Method::Resume => resume(state, q, id, ignored),
@@ -149,7 +153,13 @@ pub fn act(
         synth::Method::Unknown => {
             outcomes::failed(state, q, id, answer::Status::method_not_allowed())
         }
-        synth::Method::Recognize => speak::recognize(kind, state, q, f, h, id),
+        synth::Method::Recognize => speak::recognize(kind, state, q, set, f, h, id),
         synth::Method::StartInputTimers => start_timers(state, q, id, ignored),
+        synth::Method::SetParams => {
+            outcomes::failed(state, q, id, answer::Status::method_not_allowed())
+        }
+        synth::Method::GetParams => {
+            outcomes::failed(state, q, id, answer::Status::method_not_allowed())
+        }
     }
 }

@@ -10,6 +10,7 @@ use lib.Bits.{bitAnd, bitOr}
 use lib.Dec.{eqb}
 use lib.Pow.{pow-pos}
 use borrow.Author.Tests.{eqb-true, eq-eqb, not-true}
+use Rattle.lists.proofs.Masks.{test-any}
 use Rattle.lists.proofs.Tests.{both, either, refuted}
 use Rattle.message.specs.Known.{indexOf, is, isKnown, among, onceEach}
 use Rattle.message.specs.declared.Known.{Known}
@@ -28,8 +29,8 @@ pub among-same : (j k : Known) → indexOf j ≡ indexOf k → (ks : List Known)
 among-same j k e [] = refl
 among-same j k e (x ∷ ks) = rw (e, among-same j k e ks)
 
-pub known-same : (j k : Known) → indexOf j ≡ indexOf k → isKnown j ≡ isKnown k
-known-same j k e = rw e
+pub known-same : (params : Bool) (j k : Known) → indexOf j ≡ indexOf k → isKnown params j ≡ isKnown params k
+known-same params j k e = rw e
 
 is-sym : (j k : Known) → is j k ≡ true → is k j ≡ true
 is-sym j k e = eq-eqb (indexOf k) (indexOf j) (sym (eqb-true (indexOf j) (indexOf k) e))
@@ -50,27 +51,32 @@ mask-bit m [] k = refl
 mask-bit m (j ∷ ks) k =
     mask-bit (bitOr m (bitOf j)) ks k ∙ ap (λ b. among k ks || b) (set-name m j k) ∙ swap (among k ks) (is k j) (bit m (indexOf k))
 
-none-set : (i : ℕ) → bit 0 i ≡ false
+pub none-set : (i : ℕ) → bit 0 i ≡ false
 none-set i = ap (λ n. eqb (n % 2) 1) (div-eq-of-lt (pow-pos i))
 
-pub mask-test : (ks : List Known) (k : Known) → eqb (bitAnd (maskWith 0 ks) (knownBit k)) 0 ≡ not (isKnown k && among k ks)
-mask-test ks k =
-    test-name (maskWith 0 ks) k
-    ∙ ap (λ b. not (isKnown k && b)) (mask-bit 0 ks k ∙ ap (λ b. among k ks || b) (none-set (indexOf k)) ∙ or-false (among k ks))
+pub came : (ks : List Known) (k : Known) → bit (maskWith 0 ks) (indexOf k) ≡ among k ks
+came ks k = mask-bit 0 ks k ∙ ap (λ b. among k ks || b) (none-set (indexOf k)) ∙ or-false (among k ks)
+
+pub mask-came : (ks : List Known) (k : Known) → eqb (bitAnd (maskWith 0 ks) (bitOf k)) 0 ≡ not (among k ks)
+mask-came ks k = test-any (maskWith 0 ks) (indexOf k) ∙ ap not (came ks k)
+
+pub mask-test : (params : Bool) (ks : List Known) (k : Known)
+    → eqb (bitAnd (maskWith 0 ks) (knownBit params k)) 0 ≡ not (isKnown params k && among k ks)
+mask-test params ks k = test-name params (maskWith 0 ks) k ∙ ap (λ b. not (isKnown params k && b)) (came ks k)
 
 conj : (a b : Bool) → a ≡ true → b ≡ true → (a && b) ≡ true
 conj a b p q = rw (p, q)
 
 -- a name that did not come yet
-module _ (k : Known) where
-  fresh : (j : Known) (ks : List Known) → not (isKnown j && among j ks) ≡ true → (isKnown k && (is k j || among k ks)) ≡ false
-      → (isKnown j && among j (ks ++ k ∷ [])) ≡ true → ⊥
+module _ (params : Bool) (k : Known) where
+  fresh : (j : Known) (ks : List Known) → not (isKnown params j && among j ks) ≡ true → (isKnown params k && (is k j || among k ks)) ≡ false
+      → (isKnown params j && among j (ks ++ k ∷ [])) ≡ true → ⊥
   fresh j ks first h e =
-      let (known, came) = both (isKnown j) (among j (ks ++ k ∷ [])) e in
+      let (known, came) = both (isKnown params j) (among j (ks ++ k ∷ [])) e in
       ⊎-elim {C = ⊥}
-      (λ a. false≢true (sym (not-true (isKnown j && among j ks) first) ∙ conj (isKnown j) (among j ks) known a))
-      (λ i. let same = rw or-false at i in false≢true (sym h ∙ conj (isKnown k) (is k j || among k ks)
-      (known-same k j (sym (eqb-true (indexOf j) (indexOf k) same)) ∙ known) (ap (λ b. b || among k ks) (is-sym j k same))))
+      (λ a. false≢true (sym (not-true (isKnown params j && among j ks) first) ∙ conj (isKnown params j) (among j ks) known a))
+      (λ i. let same = rw or-false at i in false≢true (sym h ∙ conj (isKnown params k) (is k j || among k ks)
+      (known-same params k j (sym (eqb-true (indexOf j) (indexOf k) same)) ∙ known) (ap (λ b. b || among k ks) (is-sym j k same))))
       (either (among j ks) (is j k || false) (sym (among-append j ks (k ∷ [])) ∙ came))
 
   or-right : (a b c : Bool) → (a && (b || c)) ≡ false → (a && c) ≡ false
@@ -78,24 +84,24 @@ module _ (k : Known) where
   or-right true false c e = e
   or-right false b c e = refl
 
-  pub once-last : (ks : List Known) → onceEach ks ≡ true → (isKnown k && among k ks) ≡ false → onceEach (ks ++ k ∷ []) ≡ true
+  pub once-last : (ks : List Known) → onceEach params ks ≡ true → (isKnown params k && among k ks) ≡ false → onceEach params (ks ++ k ∷ []) ≡ true
   once-last [] o h = rw and-false
   once-last (j ∷ ks) o h =
-      let (first, rest) = both (not (isKnown j && among j ks)) (onceEach ks) o in
-      rw (refuted (isKnown j && among j (ks ++ k ∷ [])) (fresh j ks first h)) (once-last ks rest (or-right (isKnown k) (is k j) (among k ks) h))
+      let (first, rest) = both (not (isKnown params j && among j ks)) (onceEach params ks) o in
+      rw (refuted (isKnown params j && among j (ks ++ k ∷ [])) (fresh j ks first h)) (once-last ks rest (or-right (isKnown params k) (is k j) (among k ks) h))
 
-  -- a known name that came already, whatever comes after it
+  -- a name that counts as known and came already, whatever comes after it
   module _ (js : List Known) where
-    again : (j : Known) (ks : List Known) → isKnown k ≡ true → is k j ≡ true → (isKnown j && among j (ks ++ k ∷ js)) ≡ true
+    again : (j : Known) (ks : List Known) → isKnown params k ≡ true → is k j ≡ true → (isKnown params j && among j (ks ++ k ∷ js)) ≡ true
     again j ks known e =
-        conj (isKnown j) (among j (ks ++ k ∷ js)) (known-same j k (sym (eqb-true (indexOf k) (indexOf j) e)) ∙ known)
+        conj (isKnown params j) (among j (ks ++ k ∷ js)) (known-same params j k (sym (eqb-true (indexOf k) (indexOf j) e)) ∙ known)
         (among-append j ks (k ∷ js) ∙ ap (λ b. among j ks || (b || among j js)) (is-sym k j e) ∙ or-true (among j ks))
 
-    pub twice-never : (ks : List Known) → (isKnown k && among k ks) ≡ true → onceEach (ks ++ k ∷ js) ≡ false
-    twice-never [] h = absurd (false≢true (both (isKnown k) false h .1))
+    pub twice-never : (ks : List Known) → (isKnown params k && among k ks) ≡ true → onceEach params (ks ++ k ∷ js) ≡ false
+    twice-never [] h = absurd (false≢true (both (isKnown params k) false h .1))
     twice-never (j ∷ ks) h =
-        let (known, came) = both (isKnown k) (is k j || among k ks) h in
-        ⊎-elim {C = onceEach ((j ∷ ks) ++ k ∷ js) ≡ false}
+        let (known, came) = both (isKnown params k) (is k j || among k ks) h in
+        ⊎-elim {C = onceEach params ((j ∷ ks) ++ k ∷ js) ≡ false}
         (λ e. rw (again j ks known e))
-        (λ e. rw (twice-never ks (conj (isKnown k) (among k ks) known e), and-false))
+        (λ e. rw (twice-never ks (conj (isKnown params k) (among k ks) known e), and-false))
         (either (is k j) (among k ks) came)

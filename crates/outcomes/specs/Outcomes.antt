@@ -7,11 +7,13 @@ use Rattle.message.specs.Message.{Fields}
 use Rattle.message.specs.declared.RequestState.{RequestState}
 use Rattle.answer.specs.Answers.{responseOf}
 use Rattle.answer.specs.declared.Kind.{Kind}
+use Rattle.synth.specs.Settings.{newest}
 use Rattle.synth.specs.Channel.{View, kind, withQueue}
 use Rattle.synth.specs.Request.{Request}
 use Rattle.synth.specs.Judgement.{Verdict, late}
 use Rattle.synth.specs.States as S
 use Rattle.synth.specs.States.{afterLate}
+use Rattle.synth.specs.declared.Edition.{Edition}
 use Rattle.synth.specs.declared.Method.{Method}
 use Rattle.synth.specs.declared.State.{State}
 use Rattle.queue.specs.Queue.{listOf}
@@ -47,12 +49,14 @@ ComesAt v ahead state queue m id told o =
     let r : Request = asked major minor m id fs in
     told r → Makes w o (afterLate (ahead w r) w r))
 
--- on every channel of this kind, where these judgements are still ahead, and from judgement 6 on
-abbrev pub ComesOn : Kind → (View → Request → Verdict) → State → Queue → Method → ℕ → (Request → Type 0) → Outcome → Type 0
-ComesOn k ahead state queue m id told o = (v : View) → kind v ≡ k → ComesAt v ahead state queue m id told o
+-- on every channel of this kind and with these settings, where these judgements are still ahead, and from judgement 6 on
+abbrev pub ComesOn : Kind → Edition → (View → Request → Verdict) → State → Queue → Method → ℕ → (Request → Type 0) → Outcome
+    → Type 0
+ComesOn k now ahead state queue m id told o =
+    (v : View) → kind v ≡ k → newest (v .editions) ≡ now → ComesAt v ahead state queue m id told o
 
-abbrev pub ActsOn : Kind → State → Queue → Method → ℕ → (Request → Type 0) → Outcome → Type 0
-ActsOn k = ComesOn k late
+abbrev pub ActsOn : Kind → Edition → State → Queue → Method → ℕ → (Request → Type 0) → Outcome → Type 0
+ActsOn k now = ComesOn k now late
 
 -- on every channel, whatever its kind
 abbrev pub Acts : State → Queue → Method → ℕ → (Request → Type 0) → Outcome → Type 0

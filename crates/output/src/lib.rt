@@ -7,6 +7,7 @@ ghost use Rattle.writers.specs.Buffer.{Wrote};
 ghost use Rattle.answer.specs.Written.{written, writtenAll};
 ghost use Rattle.answer.specs.Answers.{responseOf, complete as ending, completes};
 ghost use Rattle.answer.specs.declared.Kind.{Kind};
+ghost use Rattle.sizes.specs.Steps.{tellingOf};
 ghost use Rattle.output.specs.Delivery.{counted, delivered};
 
 // What a write returns: the count of bytes written, or that they are more than the lent output holds.
@@ -34,6 +35,27 @@ fn put_response(
     let r = pieces::put_channel_identifier(out, q, name);
     let listed = pieces::put_id_list(out, r, ids);
     writers::put_bytes(out, listed, b"\r\n")
+}
+
+// Writes the answer that tells fields, whose size is `size`, at `at`; returns the place behind it.
+fn put_telling(
+    out: &mut [u8],
+    at: usize,
+    size: usize,
+    name: &[u8],
+    a: answer::Answer,
+    fields: &[u8],
+) -> usize
+    requires { ⌜ size ≡ length (tellingOf (now name) a (now fields)) ⌝ }
+    requires { ⌜ at + size ≤ length (now out) ⌝ }
+    ensures { λ r. ⌜ Wrote (now (out .entry)) at (tellingOf (now (name .entry)) a (now (fields .entry)))
+        (now (out .exit)) r ⌝ }
+{
+    let p = pieces::put_opening(out, at, size);
+    let q = pieces::put_response_line(out, p, a);
+    let r = pieces::put_channel_identifier(out, q, name);
+    let told = writers::put_bytes(out, r, fields);
+    writers::put_bytes(out, told, b"\r\n")
 }
 
 // Writes the SPEAK-COMPLETE that ends request `id`, whose size is `size`, at `at`; returns the place behind it.
@@ -107,6 +129,20 @@ pub fn respond(out: &mut [u8], name: &[u8], a: answer::Answer, ids: &[u32]) -> W
         return Written::TooLong;
     }
     let end = put_response(out, 0, size, name, a, ids);
+    Written::Count(end)
+}
+
+// Writes the answer that tells fields at the front of `out`, or nothing where it is longer than `out`.
+pub fn tell(out: &mut [u8], name: &[u8], a: answer::Answer, fields: &[u8]) -> Written
+    ensures { λ r. ⌜ r ≡ counted (tellingOf (now (name .entry)) a (now (fields .entry))) (now (out .entry)) ⌝ }
+    ensures { λ _. ⌜ now (out .exit)
+        ≡ delivered (tellingOf (now (name .entry)) a (now (fields .entry))) (now (out .entry)) ⌝ }
+{
+    let size = sizes::telling_size(name, a, fields, &out[..]);
+    if out.len() < size {
+        return Written::TooLong;
+    }
+    let end = put_telling(out, 0, size, name, a, fields);
     Written::Count(end)
 }
 

@@ -1,19 +1,22 @@
 -- What a queue shows of the array and the count behind it, and what is left of a queue. Assumes nothing.
 use Prim.Native.Nat.{ℕ, zero, suc, _-_, _≤_}
 use mathlib.Core.Path.{_≡_, refl, sym, ap, _∙_}
+use mathlib.Core.Bool.{true}
 use mathlib.Core.List.{List, [], _∷_, _++_, map, append-nil}
 use native.Mathlib.Omega.{arith}
-use lib.Dec.{eqb}
-use lib.ListN.{length, take, getD, set, length-append, length-map, length-take, length-replicate}
-use borrow.Author.Tests.{ne-eqb}
+use lib.Dec.{eqb, leb, lit≤}
+use lib.ListN.{length, take, getD, set, length-append, length-map, length-take, length-replicate, replicate}
+use borrow.Author.Tests.{ne-eqb, le-leb, leb-true}
 use mir.Val.{Val}
 use denote.Laws.{Is}
 use Rattle.lists.specs.Lists.{isEmpty}
-use Rattle.synth.specs.Channel.{ids}
+use Rattle.lists.proofs.Scans.{all-append}
+use Rattle.lists.proofs.Tests.{both}
+use Rattle.synth.specs.Channel.{ids, areLevels}
 use Rattle.synth.specs.States.{whileAny, active}
 use Rattle.synth.specs.declared.Entry.{Entry}
 use Rattle.synth.specs.declared.State.{State}
-use Rattle.queue.specs.Queue.{noEntry, idIn, entryIn, entriesOf, listOf, emptyQueue, first, Lists, noIds}
+use Rattle.queue.specs.Queue.{noEntry, idIn, levelIn, entryIn, entriesOf, listOf, emptyQueue, first, Lists, noIds}
 use Rattle.queue.specs.declared.Queue.{Queue}
 use Rattle.queue.specs.declared.Ids.{Ids}
 use Rattle.queue.proofs.Queue.{the-row}
@@ -25,6 +28,10 @@ length-of X Y f l n p = sym (length-map l f) ∙ p
 
 pub ids-16 : (l : Ids) (vs : List Val) → Is I.the-row l vs → length (l .ids) ≡ 16
 ids-16 l vs good = search length-of
+
+-- millionths of at most one are their own number
+pub level-same : (n : ℕ) → n ≤ 1000000 → levelIn n ≡ n
+level-same n h = omega arith
 
 -- those numbers with their thresholds: as many, at the same places
 pub entries-long : (numbers : List ℕ) (levels : List ℕ) → length levels ≡ length numbers → length (entriesOf numbers levels) ≡ length numbers
@@ -124,3 +131,27 @@ none-listed = record { shown = refl; counted = refl; few = omega arith }
 
 pub none-outstanding : listOf emptyQueue ≡ []
 none-outstanding = none-in emptyQueue refl
+
+-- whatever the numbers, the thresholds that they tell are levels
+first-levels : (n : ℕ) (numbers levels : List ℕ) → areLevels (take n (entriesOf numbers levels)) ≡ true
+first-levels zero numbers levels = refl
+first-levels (suc n) [] levels = refl
+first-levels (suc n) (h ∷ numbers) [] = refl
+first-levels (suc n) (h ∷ numbers) (m ∷ levels) = rw (le-leb (levelIn m) 1000000 (omega arith)) (first-levels n numbers levels)
+
+pad-levels : (n : ℕ) → areLevels (replicate n noEntry) ≡ true
+pad-levels zero = refl
+pad-levels (suc n) = pad-levels n
+
+pub all-levels : (q : Queue) → areLevels (listOf q) ≡ true
+unfolding listOf
+all-levels q =
+    all-append (λ (e : Entry). leb (e .threshold) 1000000) (take (q .count) (entriesIn q)) (replicate (q .count - 16) noEntry)
+    (first-levels (q .count) (q .numbers) (q .thresholds)) (pad-levels (q .count - 16))
+
+pub first-level : (q : Queue) → first (listOf q) .threshold ≤ 1000000
+first-level q = go (listOf q) (all-levels q)
+  where
+    go : (l : List Entry) → areLevels l ≡ true → first l .threshold ≤ 1000000
+    go [] h = lit≤ tt
+    go (e ∷ l) h = leb-true (e .threshold) 1000000 (both (leb (e .threshold) 1000000) (areLevels l) h .0)

@@ -26,8 +26,12 @@ idIn n = n / 2 % 4294967296
 abbrev pub killIn : ℕ → Bool
 killIn n = eqb (n % 2) 1
 
+-- a threshold's number tells millionths, at most one: none is out of range
+abbrev pub levelIn : ℕ → ℕ
+levelIn n = n % 1000001
+
 abbrev pub entryIn : ℕ → ℕ → Entry
-entryIn n threshold = record { id = idIn n; kill = killIn n; threshold = threshold }
+entryIn n threshold = record { id = idIn n; kill = killIn n; threshold = levelIn threshold }
 
 abbrev pub entriesOf : List ℕ → List ℕ → List Entry
 entriesOf [] levels = []

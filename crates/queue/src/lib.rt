@@ -11,7 +11,7 @@ ghost use Rattle.synth.specs.Channel.{isBusy, ids as idsOf};
 ghost use Rattle.synth.specs.States.{whileAny, active as activeIn};
 ghost use Rattle.synth.specs.Calls.{awaits};
 ghost use Rattle.synth.specs.declared.Entry.{Entry};
-ghost use Rattle.queue.specs.Queue.{idIn, killIn, listOf, isSynthesizer, fitsIn, emptyQueue, first, noIds, Lists, Ends};
+ghost use Rattle.queue.specs.Queue.{idIn, killIn, levelIn, listOf, isSynthesizer, fitsIn, emptyQueue, first, noIds, Lists, Ends};
 
 // How many may be outstanding: SPEAKs, and RECOGNIZEs.
 pub const MOST: usize = 16;
@@ -58,6 +58,13 @@ fn kill_in(n: u64) -> bool
     ensures { λ r. ⌜ r ≡ killIn n ⌝ }
 {
     n % 2 == 1
+}
+
+// A threshold in millionths.
+pub fn level_in(n: u32) -> u32
+    ensures { λ r. ⌜ r ≡ levelIn n ⌝ }
+{
+    n % 1000001
 }
 
 fn number(e: synth::Entry) -> u64
@@ -196,9 +203,9 @@ pub fn is_rising(kind: answer::Kind, q: Queue, end: u64) -> bool
     from <= end
 }
 
-// One more joins the end, where there is room.
+// One more joins the end, where there is room; its threshold is a level's.
 pub fn join(q: Queue, e: synth::Entry) -> Queue
-    ensures { λ r. ⌜ (length (listOf q) < 16 → listOf r ≡ listOf q ++ (e ∷ [])) ⌝ }
+    ensures { λ r. ⌜ (length (listOf q) < 16 → e .threshold ≤ 1000000 → listOf r ≡ listOf q ++ (e ∷ [])) ⌝ }
     ensures { λ r. ⌜ (16 ≤ length (listOf q) → r ≡ q) ⌝ }
 {
     let n = q.count;
@@ -229,7 +236,7 @@ pub fn active(q: Queue) -> synth::Entry
     synth::Entry {
         id: id_in(n),
         kill: kill_in(n),
-        threshold: thresholds[0],
+        threshold: level_in(thresholds[0]),
     }
 }
 

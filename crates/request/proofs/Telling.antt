@@ -2,7 +2,7 @@
 -- with it.
 -- Assumes nothing.
 use mathlib.Core.Path.{_≡_, refl, sym, ap, _∙_}
-use mathlib.Core.Bool.{Bool, true, false, not, false≢true}
+use mathlib.Core.Bool.{Bool, true, false, not}
 use mathlib.Core.Option.{none, some}
 use mathlib.Core.List.{List, [], _∷_, map}
 use Prim.Native.Nat.{ℕ, _+_}
@@ -18,10 +18,10 @@ use Rattle.message.specs.declared.Span.{Span}
 use Rattle.message.specs.declared.Known.{Known}
 use Rattle.message.specs.declared.Known.the-variants.{ChannelIdentifier, ContentLength, ContentType}
 use Rattle.message.specs.declared.Known.the-variants.{ActiveRequestIdList, KillOnBargeIn, ProxySyncId, LoggingTag}
-use Rattle.message.specs.declared.Known.the-variants.{Unknown, ConfidenceThreshold}
+use Rattle.message.specs.declared.Known.the-variants.{Unknown, ConfidenceThreshold, FetchTimeout, NoInputTimeout, SensitivityLevel}
 use Rattle.message.proofs.Says.{Judged}
 use Rattle.names.specs.Names.{bitOf, namesIn}
-use Rattle.names.specs.Steps.{knownBit}
+use Rattle.names.proofs.Marks.{none-set, came}
 use Rattle.names.proofs.Theorems.NamesOfASet.{none-of-set}
 use Rattle.header.specs.Header.{nowhere, headerOf}
 use Rattle.header.specs.declared.Header.{Header}
@@ -33,19 +33,7 @@ use Rattle.values.specs.Steps.{meets, givenBy}
 use Rattle.values.specs.declared.Given.{Given}
 use Rattle.request.specs.Telling.{Tells, valueBy}
 
--- a known name's bit is its own
-own-bit : (k : Known) → isKnown k ≡ true → bitOf k ≡ knownBit k
-own-bit ChannelIdentifier e = refl
-own-bit ContentLength e = refl
-own-bit ContentType e = refl
-own-bit ActiveRequestIdList e = refl
-own-bit KillOnBargeIn e = refl
-own-bit ProxySyncId e = refl
-own-bit LoggingTag e = refl
-own-bit Unknown e = absurd (false≢true e)
-own-bit ConfidenceThreshold e = refl
-
-module _ (f : List ℕ) where
+module _ (params : Bool) (f : List ℕ) where
   none-came : (k : Known) → givenOf f (valueBy (headerOf f bad) k) ≡ none
   none-came k = ap (λ n. givenOf f
       (elim (not (eqb n 0)) [
@@ -54,12 +42,13 @@ module _ (f : List ℕ) where
         | false ↦ Given.Nothing
       ])) (and-zero-l (bitOf k))
 
-  nothing : Tells f (headerOf f bad) bad
+  nothing : Tells params f (headerOf f bad) bad
   unfolding valueOf
   nothing = record {
     good = refl;
     value = λ k known. none-came k;
     body = refl;
+    came = λ k. none-set (indexOf k);
     names = λ set. ap (λ n. not (eqb n 0))
         (and-zero-l set);
   }
@@ -74,27 +63,27 @@ module _ (f : List ℕ) where
   none-left [] n e = eq-eqb n 0 e
   none-left (x ∷ l) n e = ne-eqb n 0 (λ z. let q : n ≡ 0 = z in omega arith)
 
-  module _ (fs : List (Field Span)) (body : Span) (once : onceEach (namesIn f fs) ≡ true)
+  module _ (fs : List (Field Span)) (body : Span) (once : onceEach params (namesIn f fs) ≡ true)
       (ends : body .start + body .len ≡ length f) where
     abbrev h : Header
     h = headerOf f (good fs body)
 
-    valued : (k : Known) → isKnown k ≡ true → givenOf f (valueBy h k) ≡ judgedValue k (map (onField (part f)) fs)
+    valued : (k : Known) → isKnown params k ≡ true → givenOf f (valueBy h k) ≡ judgedValue k (map (onField (part f)) fs)
     valued k known =
         let p : Span = getD (h .values) (indexOf k) nowhere in
-        ap (λ b. givenOf f (givenBy (h .mask) b p)) (own-bit k known)
-        ∙ by-place p (eqb (bitAnd (h .mask) (knownBit k)) 0)
-        ∙ sym (ap asJoined (value-by-mask f fs body once k known))
+        by-place p (eqb (bitAnd (h .mask) (bitOf k)) 0)
+        ∙ sym (ap asJoined (value-by-mask params f fs body once k known))
 
-    something : Tells f h (onFields (part f) (good fs body))
+    something : Tells params f h (onFields (part f) (good fs body))
     something = record {
       good = refl;
       value = valued;
+      came = λ k. came (namesIn f fs) k;
       body = none-left (part f body) (body .len) (simp (length-take, length-drop) (omega arith));
       names = λ set. ap not (none-of-set set (namesIn f fs));
     }
 
-  pub tells : (at : ℕ) (x : Fields Span) → Judged f at x → Tells f (headerOf f x) (onFields (part f) x)
+  pub tells : (at : ℕ) (x : Fields Span) → Judged params f at x → Tells params f (headerOf f x) (onFields (part f) x)
   tells at bad j = nothing
   tells at (good fs body) j = something fs body (j .once) (j .ends)
 
@@ -102,9 +91,9 @@ module _ (f : List ℕ) where
 abbrev pub each : List Known
 each =
     ChannelIdentifier ∷ ContentLength ∷ ContentType ∷ ActiveRequestIdList ∷ KillOnBargeIn ∷ ProxySyncId ∷ LoggingTag
-    ∷ Unknown ∷ ConfidenceThreshold ∷ []
+    ∷ Unknown ∷ ConfidenceThreshold ∷ FetchTimeout ∷ NoInputTimeout ∷ SensitivityLevel ∷ []
 
-on-each : (a b : Known → Bool) → map a each ≡ map b each → (k : Known) → a k ≡ b k
+pub on-each : (a b : Known → Bool) → map a each ≡ map b each → (k : Known) → a k ≡ b k
 on-each a b e ChannelIdentifier = ap (λ l. getD l 0 true) e
 on-each a b e ContentLength = ap (λ l. getD l 1 true) e
 on-each a b e ContentType = ap (λ l. getD l 2 true) e
@@ -114,13 +103,16 @@ on-each a b e ProxySyncId = ap (λ l. getD l 5 true) e
 on-each a b e LoggingTag = ap (λ l. getD l 6 true) e
 on-each a b e Unknown = ap (λ l. getD l 7 true) e
 on-each a b e ConfidenceThreshold = ap (λ l. getD l 8 true) e
+on-each a b e FetchTimeout = ap (λ l. getD l 9 true) e
+on-each a b e NoInputTimeout = ap (λ l. getD l 10 true) e
+on-each a b e SensitivityLevel = ap (λ l. getD l 11 true) e
 
 -- a set of the names that are ignored in a method tells whether the request ignores one
-pub ignores : (f : List ℕ) (h : Header) (fs : Fields (List ℕ)) → Tells f h fs
+pub ignores : (params : Bool) (f : List ℕ) (h : Header) (fs : Fields (List ℕ)) → Tells params f h fs
     → (major minor id : ℕ) (m : Method) (set : ℕ)
     → map (λ k. bit set (indexOf k)) each ≡ map (ignored m) each
     → meets (h .mask) set ≡ ignoresAny (record { major = major; minor = minor; method = m; id = id; fields = fs })
 unfolding ignoresAny
-ignores f h fs w major minor id m set e =
+ignores params f h fs w major minor id m set e =
     w .names set ∙ (λ z. not
     (all (λ k. not (on-each (λ k. bit set (indexOf k)) (ignored m) e k z)) (namesOf (fieldsIn fs))))

@@ -1,5 +1,6 @@
 // What an engine report counts as, by its score: document 02, K1.
 ghost use mathlib.Core.Path.{_≡_};
+ghost use Prim.Native.Nat.{_≤_};
 ghost use lib.Ieee.{lt};
 ghost use Rattle.synth.specs.Levels.{single};
 ghost use Rattle.synth.specs.Calls.{isNoScore};
@@ -7,11 +8,6 @@ ghost use Rattle.synth.specs.States.{isMatch, counted};
 
 // What a match whose score is not greater than the threshold counts as.
 const NO_MATCH: u32 = 1;
-
-// The bits of the infinity: those above them, without the sign, are no number's.
-const INFINITY: u32 = 2139095040;
-
-const SIGN: u32 = 2147483648;
 
 // Whether the score is no number; a synthesizer's is not judged.
 pub fn is_none(kind: answer::Kind, score: f32) -> bool
@@ -33,19 +29,16 @@ pub fn is_match(cause: u32) -> bool
     cause == 8
 }
 
-// Whether the score is greater than the threshold with these bits. No number is greater than one that is none.
+// Whether the score is greater than the threshold of so many millionths.
 fn is_greater(threshold: u32, score: f32) -> bool
-    ensures { λ r. ⌜ r ≡ lt (single threshold) score ⌝ }
+    ensures { λ r. ⌜ (threshold ≤ 1000000 → r ≡ lt (single threshold) score) ⌝ }
 {
-    if INFINITY < threshold % SIGN {
-        return false;
-    }
-    f32::from_bits(threshold) < score
+    levels::single(threshold) < score
 }
 
 // The cause that a report with this score counts as.
 pub fn counted(threshold: u32, cause: u32, score: f32) -> u32
-    ensures { λ r. ⌜ r ≡ counted threshold cause score ⌝ }
+    ensures { λ r. ⌜ (threshold ≤ 1000000 → r ≡ counted threshold cause score) ⌝ }
 {
     if !is_match(cause) {
         return cause;

@@ -4,12 +4,14 @@ ghost use mathlib.Core.Path.{_≡_};
 ghost use Prim.Native.Nat.{_+_, _^_, _≤_, _<_, min};
 ghost use mathlib.Core.List.{map};
 ghost use lib.ListN.{length};
+ghost use Rattle.writers.specs.Decimal.{width};
 ghost use Rattle.writers.specs.SelfLength.{selfLength};
 ghost use Rattle.message.specs.StartLines.{stateText};
 ghost use Rattle.answer.specs.Written.{fieldsText, written, writtenAll};
 ghost use Rattle.answer.specs.IdList.{behindCommas};
 ghost use Rattle.answer.specs.Answers.{activeRequestIdList, responseOf, complete, completes};
 ghost use Rattle.answer.specs.declared.Kind.{Kind};
+ghost use Rattle.sizes.specs.Steps.{tellingOf};
 
 // How many bytes the word of a state has.
 fn state_width(state: message::RequestState) -> usize
@@ -20,6 +22,14 @@ fn state_width(state: message::RequestState) -> usize
         message::RequestState::InProgress => 11,
         message::RequestState::Complete => 8,
     }
+}
+
+// How many bytes the words of a response's start line have.
+fn words_size(a: answer::Answer) -> usize
+    ensures { λ r. ⌜ (r ≡ 5 + width (a .id) + length (stateText (a .state))) × (r ≤ 36) ⌝ }
+{
+    let state = a.state;
+    5 + writers::width(a.id as u64) + state_width(state)
 }
 
 // The size of the ids, each with a comma before it, or cap + 1 where it is above cap.
@@ -79,10 +89,19 @@ pub fn response_size(name: &[u8], a: answer::Answer, ids: &[u32], out: &[u8]) ->
         (length (now (out .entry)) + 1) ⌝ }
 {
     let cap = out.len();
-    let state = a.state;
-    let words = 5 + writers::width(a.id as u64) + state_width(state);
+    let words = words_size(a);
     let list = list_size(ids, cap);
     message_size(name, words + list, cap)
+}
+
+// The size of the answer that tells fields, or one more than `out` holds where it is longer.
+pub fn telling_size(name: &[u8], a: answer::Answer, fields: &[u8], out: &[u8]) -> usize
+    ensures { λ r. ⌜ r ≡ min (length (tellingOf (now (name .entry)) a (now (fields .entry))))
+        (length (now (out .entry)) + 1) ⌝ }
+{
+    let cap = out.len();
+    let words = words_size(a);
+    message_size(name, words + fields.len(), cap)
 }
 
 // The size of the SPEAK-COMPLETE that ends request `id`, or one more than `out` holds where it is longer.

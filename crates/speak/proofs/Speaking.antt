@@ -1,15 +1,16 @@
 -- What a SPEAK or a RECOGNIZE comes to from judgement 6 on, one law for each way out. Assumes nothing.
-use Prim.Native.Nat.{ℕ}
+use Prim.Native.Nat.{ℕ, _≤_}
 use mathlib.Core.Path.{_≡_, refl, sym, ap, ap₂, _∙_}
 use mathlib.Core.Bool.{Bool, true, false, not, _&&_, _||_, false≢true}
 use mathlib.Core.Option.{Option, none, some}
 use mathlib.Core.List.{List, []}
 use native.Mathlib.Omega.{arith}
-use lib.Dec.{leb, ltb}
+use lib.Dec.{leb, ltb, lit≤}
 use lib.ListN.{length}
 use borrow.Author.Tests.{leb-true, leb-false, lt-ltb, le-ltb}
 use Rattle.octets.specs.Octets.{bytes, alike}
-use Rattle.lists.specs.Lists.{isEmpty}
+use Rattle.lists.specs.Lists.{all, isEmpty}
+use Rattle.lists.proofs.Tests.{both}
 use Rattle.message.specs.Message.{Fields, fieldsIn}
 use Rattle.message.specs.Known.{judgedValue}
 use Rattle.message.specs.Reading.{bodyIn}
@@ -17,21 +18,25 @@ use Rattle.message.specs.declared.Known.the-variants.{ContentLength, ContentTyp
 use Rattle.message.specs.declared.RequestState.the-variants.{Pending, InProgress}
 use Rattle.answer.specs.declared.Kind.{Kind}
 use Rattle.synth.specs.Levels.{levelIn, isSome, isLevel}
+use Rattle.synth.specs.Settings.{noInputTimeout, confidenceThreshold, settings, slot, isFlag, keptFor, isUnset, isEditionOf}
 use Rattle.synth.specs.Kinds.{most}
 use Rattle.synth.specs.Channel.{View, kind, isBusy}
 use Rattle.synth.specs.Request.{Request, opens, acting, ignoresAny}
-use Rattle.synth.specs.Judgement.{Verdict, passes, fails, _then_, unless, given, optional, anything, isFlag, isTypeOf, legal, ofKind, valid, content, capacity, late}
-use Rattle.synth.specs.States.{failed, succeeded, killable, orZero, thresholdIn, entryOf, joined, enter, act, afterLate}
+use Rattle.synth.specs.Judgement.{Verdict, passes, fails, _then_, unless, given, optional, anything, isTypeOf, permitted, legal, ofKind, valid, content, capacity, late}
+use Rattle.synth.specs.States.{failed, succeeded, killSet, killable, orZero, levelSet, thresholdIn, entryOf, joined, enter, act, afterLate}
 use Rattle.synth.specs.declared.Entry.{Entry}
+use Rattle.synth.specs.declared.Level.{Level}
+use Rattle.synth.specs.declared.Setting.{Setting}
+use Rattle.synth.specs.declared.Edition.{Edition}
 use Rattle.synth.specs.declared.Method.{Method}
 use Rattle.synth.specs.declared.State.{State}
 use Rattle.synth.specs.declared.State.the-variants.{Speaking, Recognizing}
 use Rattle.header.specs.declared.Header.{Header}
-use Rattle.levels.specs.Thresholds.{kept, thresholdOf}
-use Rattle.levels.specs.declared.Threshold.{Threshold}
-use Rattle.values.specs.Values.{givenOf, killOf, contentBy}
+use Rattle.synth.proofs.Levels.{kept-most, read-exact}
+use Rattle.values.specs.Values.{givenOf, killOf, millionthsIn, thresholdOf, contentBy}
 use Rattle.values.specs.Steps.{meets}
 use Rattle.values.specs.declared.Kill.{Kill}
+use Rattle.values.specs.declared.Threshold.{Threshold}
 use Rattle.request.specs.Telling.{Tells, valueBy}
 use Rattle.request.proofs.Telling.{ignores}
 use Rattle.outcomes.specs.Outcomes.{asked}
@@ -40,18 +45,19 @@ use Rattle.outcomes.specs.Outcomes.{asked}
 abbrev killed : Bool → Bool → Kill
 killed t f = elim t [ true ↦ Kill.Of true | false ↦ elim f [ true ↦ Kill.Of false | false ↦ Kill.Illegal ] ]
 
-pub kill-given : (kill : Bool) (o : Option (List ℕ)) → Kill.Of kill ≡ killOf o → (optional isFlag o ≡ true) × (kill ≡ killable o)
-kill-given kill none e = (refl, cc)
-kill-given kill (some v) e = go (alike v (bytes "true")) (alike v (bytes "false")) e
+pub kill-given : (kill : Bool) (x : Setting) (o : Option (List ℕ)) → Kill.Of kill ≡ killOf (killSet x) o
+    → (optional isFlag o ≡ true) × (kill ≡ killable x o)
+kill-given kill x none e = (refl, cc)
+kill-given kill x (some v) e = go (alike v (bytes "true")) (alike v (bytes "false")) e
   where
     go : (t f : Bool) → Kill.Of kill ≡ killed t f → ((t || f) ≡ true) × (kill ≡ t)
     go true f e = (refl, cc)
     go false true e = (refl, cc)
     go false false e = let d : _≡_ {A = ℕ} 0 1 = cc in absurd (omega arith)
 
-pub kill-illegal : (o : Option (List ℕ)) → Kill.Illegal ≡ killOf o → optional isFlag o ≡ false
-kill-illegal none e = let d : _≡_ {A = ℕ} 0 1 = cc in absurd (omega arith)
-kill-illegal (some v) e = go (alike v (bytes "true")) (alike v (bytes "false")) e
+pub kill-illegal : (otherwise : Bool) (o : Option (List ℕ)) → Kill.Illegal ≡ killOf otherwise o → optional isFlag o ≡ false
+kill-illegal otherwise none e = let d : _≡_ {A = ℕ} 0 1 = cc in absurd (omega arith)
+kill-illegal otherwise (some v) e = go (alike v (bytes "true")) (alike v (bytes "false")) e
   where
     go : (t f : Bool) → Kill.Illegal ≡ killed t f → (t || f) ≡ false
     go true f e = let d : _≡_ {A = ℕ} 0 1 = cc in absurd (omega arith)
@@ -59,21 +65,58 @@ kill-illegal (some v) e = go (alike v (bytes "true")) (alike v (bytes "false")) 
     go false false e = refl
 
 -- what Confidence-Threshold says
-pub level-given : (bits : ℕ) (o : Option (List ℕ)) → Threshold.Of bits ≡ thresholdOf o → (optional isLevel o ≡ true) × (bits ≡ thresholdIn o)
-level-given bits none e = (refl, cc)
-level-given bits (some v) e = go (levelIn v) e
+pub level-given : (n : ℕ) (x : Setting) (o : Option (List ℕ)) → Threshold.Of n ≡ thresholdOf (levelSet x) o
+    → (optional isLevel o ≡ true) × (n ≡ thresholdIn x o)
+level-given n x none e = (refl, cc)
+level-given n x (some v) e = go (levelIn v) e
   where
-    go : (l : Option ℕ) → Threshold.Of bits ≡ kept l → (isSome l ≡ true) × (bits ≡ orZero l)
+    go : (l : Option Level) → Threshold.Of n ≡ millionthsIn l → (isSome l ≡ true) × (n ≡ orZero l)
     go none e = let d : _≡_ {A = ℕ} 0 1 = cc in absurd (omega arith)
-    go (some b) e = (refl, cc)
+    go (some l) e = (refl, cc)
 
-pub level-illegal : (o : Option (List ℕ)) → Threshold.Illegal ≡ thresholdOf o → optional isLevel o ≡ false
-level-illegal none e = let d : _≡_ {A = ℕ} 0 1 = cc in absurd (omega arith)
-level-illegal (some v) e = go (levelIn v) e
+pub level-illegal : (otherwise : ℕ) (o : Option (List ℕ)) → Threshold.Illegal ≡ thresholdOf otherwise o
+    → optional isLevel o ≡ false
+level-illegal otherwise none e = let d : _≡_ {A = ℕ} 0 1 = cc in absurd (omega arith)
+level-illegal otherwise (some v) e = go (levelIn v) e
   where
-    go : (l : Option ℕ) → Threshold.Illegal ≡ kept l → isSome l ≡ false
+    go : (l : Option Level) → Threshold.Illegal ≡ millionthsIn l → isSome l ≡ false
     go none e = refl
-    go (some b) e = let d : _≡_ {A = ℕ} 0 1 = cc in absurd (omega arith)
+    go (some l) e = let d : _≡_ {A = ℕ} 0 1 = cc in absurd (omega arith)
+
+-- a level has at most a million millionths, whether it is set or given
+unset-kept : (x : Setting) → isUnset x ≡ true → keptFor confidenceThreshold x ≡ true
+unset-kept Setting.Unset e = refl
+unset-kept (Setting.Flag b) e = absurd (false≢true e)
+unset-kept (Setting.Millis n) e = absurd (false≢true e)
+unset-kept (Setting.Level l) e = absurd (false≢true e)
+
+confidence-kept : (k : Kind) (e : Edition) → isEditionOf k e ≡ true → keptFor confidenceThreshold (e .confidence) ≡ true
+confidence-kept Kind.Synthesizer e h =
+    let others = both (all (λ n. keptFor n (slot n e)) (settings Kind.Synthesizer))
+    (all (λ n. isUnset (slot n e)) (settings Kind.Recognizer)) h .1 in
+    unset-kept (e .confidence)
+    (both (isUnset (e .confidence)) _ (both (isUnset (e .silence)) _ others .1) .0)
+confidence-kept Kind.Recognizer e h =
+    let own = both (all (λ n. keptFor n (slot n e)) (settings Kind.Recognizer))
+    (all (λ n. isUnset (slot n e)) (settings Kind.Synthesizer)) h .0 in
+    both (keptFor confidenceThreshold (e .confidence)) _ (both (keptFor noInputTimeout (e .silence)) _ own .1) .0
+
+kept-few : (x : Setting) → keptFor confidenceThreshold x ≡ true → levelSet x ≤ 1000000
+kept-few Setting.Unset h = lit≤ tt
+kept-few (Setting.Flag b) h = lit≤ tt
+kept-few (Setting.Millis n) h = lit≤ tt
+kept-few (Setting.Level l) h = kept-most l h
+
+pub set-few : (k : Kind) (e : Edition) → isEditionOf k e ≡ true → levelSet (e .confidence) ≤ 1000000
+set-few k e h = kept-few (e .confidence) (confidence-kept k e h)
+
+pub threshold-few : (x : Setting) → levelSet x ≤ 1000000 → (o : Option (List ℕ)) → thresholdIn x o ≤ 1000000
+threshold-few x h none = h
+threshold-few x h (some v) = go (levelIn v) refl
+  where
+    go : (l : Option Level) → levelIn v ≡ l → orZero l ≤ 1000000
+    go none e = lit≤ tt
+    go (some l) e = read-exact v l e .most
 
 -- judgement 6
 module _ (v : View) (major minor id : ℕ) (fs : Fields (List ℕ)) where
@@ -82,47 +125,50 @@ module _ (v : View) (major minor id : ℕ) (fs : Fields (List ℕ)) where
     speaks = asked major minor Method.Speak id fs
 
     pub speak-illegal : optional isFlag (acting KillOnBargeIn speaks) ≡ false → afterLate (late v speaks) v speaks ≡ failed v speaks 404
-    unfolding late legal acting unless _then_
+    unfolding late permitted legal acting unless _then_
     speak-illegal e = rw e
 
     pub speak-legal : optional isFlag (acting KillOnBargeIn speaks) ≡ true → afterLate (late v speaks) v speaks ≡ afterLate (content speaks then capacity v speaks) v speaks
-    unfolding late legal ofKind valid acting unless _then_
+    unfolding late permitted legal ofKind valid acting unless _then_
     speak-legal e = rw e
 
-    pub kill-told : (f : List ℕ) (h : Header) → Tells f h fs → givenOf f (valueBy h KillOnBargeIn) ≡ acting KillOnBargeIn speaks
+    pub kill-told : (f : List ℕ) (h : Header) → Tells false f h fs → givenOf f (valueBy h KillOnBargeIn) ≡ acting KillOnBargeIn speaks
     unfolding acting
     kill-told f h w = w .value KillOnBargeIn refl
 
-    pub speak-entry : (kill : Bool) → kill ≡ killable (acting KillOnBargeIn speaks) → record { id = id; kill = kill; threshold = 0 } ≡ entryOf speaks
+    pub speak-entry : (set : Edition) (kill : Bool) (n : ℕ) → kill ≡ killable (set .kill) (acting KillOnBargeIn speaks)
+        → n ≡ levelSet (set .confidence) → record { id = id; kill = kill; threshold = n } ≡ entryOf set speaks
     unfolding acting
-    speak-entry kill e = ap {B = Entry} (λ (b : Bool). record { id = id; kill = b; threshold = 0 }) e
+    speak-entry set kill n e f = ap₂ {C = Entry} (λ (b : Bool) (n : ℕ). record { id = id; kill = b; threshold = n }) e f
 
-    pub ignored-in-speak : (f : List ℕ) (h : Header) → Tells f h fs → meets (h .mask) 392 ≡ ignoresAny speaks
-    ignored-in-speak f h w = ignores f h fs w major minor id Method.Speak 392 refl
+    pub ignored-in-speak : (f : List ℕ) (h : Header) → Tells false f h fs → meets (h .mask) 3976 ≡ ignoresAny speaks
+    ignored-in-speak f h w = ignores false f h fs w major minor id Method.Speak 3976 refl
 
   module _ where
     abbrev recognizes : Request
     recognizes = asked major minor Method.Recognize id fs
 
     pub recognize-illegal : optional isLevel (acting ConfidenceThreshold recognizes) ≡ false → afterLate (late v recognizes) v recognizes ≡ failed v recognizes 404
-    unfolding late legal acting unless _then_
+    unfolding late permitted legal acting unless _then_
     recognize-illegal e = rw e
 
     pub recognize-legal : optional isLevel (acting ConfidenceThreshold recognizes) ≡ true
         → afterLate (late v recognizes) v recognizes ≡ afterLate (content recognizes then capacity v recognizes) v recognizes
-    unfolding late legal ofKind valid acting unless _then_
+    unfolding late permitted legal ofKind valid acting unless _then_
     recognize-legal e = rw e
 
-    pub level-told : (f : List ℕ) (h : Header) → Tells f h fs → givenOf f (valueBy h ConfidenceThreshold) ≡ acting ConfidenceThreshold recognizes
+    pub level-told : (f : List ℕ) (h : Header) → Tells false f h fs → givenOf f (valueBy h ConfidenceThreshold) ≡ acting ConfidenceThreshold recognizes
     unfolding acting
     level-told f h w = w .value ConfidenceThreshold refl
 
-    pub recognize-entry : (bits : ℕ) → bits ≡ thresholdIn (acting ConfidenceThreshold recognizes) → record { id = id; kill = true; threshold = bits } ≡ entryOf recognizes
+    pub recognize-entry : (set : Edition) (kill : Bool) (n : ℕ) → kill ≡ killSet (set .kill)
+        → n ≡ thresholdIn (set .confidence) (acting ConfidenceThreshold recognizes)
+        → record { id = id; kill = kill; threshold = n } ≡ entryOf set recognizes
     unfolding acting
-    recognize-entry bits e = ap {B = Entry} (λ (n : ℕ). record { id = id; kill = true; threshold = n }) e
+    recognize-entry set kill n e f = ap₂ {C = Entry} (λ (b : Bool) (n : ℕ). record { id = id; kill = b; threshold = n }) e f
 
-    pub ignored-in-recognize : (f : List ℕ) (h : Header) → Tells f h fs → meets (h .mask) 152 ≡ ignoresAny recognizes
-    ignored-in-recognize f h w = ignores f h fs w major minor id Method.Recognize 152 refl
+    pub ignored-in-recognize : (f : List ℕ) (h : Header) → Tells false f h fs → meets (h .mask) 3736 ≡ ignoresAny recognizes
+    ignored-in-recognize f h w = ignores false f h fs w major minor id Method.Recognize 3736 refl
 
 -- SPEAK and RECOGNIZE enter a state
 pub entering : (m : Method) → opens m ≡ true → (s : State) × ((v : View) (r : Request) → act m v r ≡ enter s v r)
@@ -136,6 +182,8 @@ entering Method.BargeInOccurred o = absurd (false≢true o)
 entering Method.Unknown o = absurd (false≢true o)
 entering Method.Recognize o = (Recognizing, λ v r. refl)
 entering Method.StartInputTimers o = absurd (false≢true o)
+entering Method.SetParams o = absurd (false≢true o)
+entering Method.GetParams o = absurd (false≢true o)
 
 -- judgements 9 and 10, and what comes of it
 module _ (v : View) (major minor : ℕ) (m : Method) (id : ℕ) (fs : Fields (List ℕ)) where
@@ -164,7 +212,7 @@ module _ (v : View) (major minor : ℕ) (m : Method) (id : ℕ) (fs : Fields (Li
         | false ↦ passes
       ]
 
-      pub content-told : (f : List ℕ) (h : Header) → Tells f h fs
+      pub content-told : (f : List ℕ) (h : Header) → Tells false f h fs
           → contentBy m (givenOf f (valueBy h ContentLength)) (givenOf f (valueBy h ContentType)) (h .body .len) ≡ content opening
       unfolding content acting
       content-told f h w =

@@ -1,8 +1,12 @@
-// Start lines: document 01, "Start lines".
+// Start lines: document 01, "Start lines", and which of them ask for settings: document 02, K5.
 ghost use mathlib.Core.Path.{_≡_};
+ghost use mathlib.Core.Bool.{_||_};
 ghost use lib.ListN.{drop};
+ghost use Rattle.lists.specs.Lists.{same};
+ghost use Rattle.octets.specs.Octets.{bytes};
 ghost use Rattle.message.specs.StartLines.{startLine as startLineOf};
-ghost use Rattle.startline.specs.StartLine.{startedOf};
+ghost use Rattle.message.specs.Reading.{asksParams};
+ghost use Rattle.startline.specs.StartLine.{startOf, startedOf};
 ghost use Rattle.startline.specs.Rules.{said, told, fromStatus, fromId, behindName, fromName};
 
 // What a start line says; a name is a part of the frame.
@@ -118,4 +122,29 @@ pub fn start_line(f: &[u8], k: usize) -> StartLine
         return response(f, k);
     }
     named(f, k)
+}
+
+// SET-PARAMS or GET-PARAMS. The length is looked at first, so that other names cost next to nothing.
+pub fn is_params(name: &[u8]) -> bool
+    ensures { λ r. ⌜ r ≡ (same (now (name .entry)) (bytes "SET-PARAMS")
+        || same (now (name .entry)) (bytes "GET-PARAMS")) ⌝ }
+{
+    if name.len() != 10 {
+        return false;
+    }
+    if octets::equal(name, b"SET-PARAMS") {
+        return true;
+    }
+    octets::equal(name, b"GET-PARAMS")
+}
+
+// The start line is that of such a request.
+pub fn asks_params(f: &[u8], start: Start) -> bool
+    ensures { λ r. ⌜ r ≡ asksParams (now (f .entry)) (startOf start) ⌝ }
+{
+    match start {
+        Start::Request(name, _) => is_params(message::part(f, name)),
+        Start::Response(_, _, _) => false,
+        Start::Event(_, _, _) => false,
+    }
 }

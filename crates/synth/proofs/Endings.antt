@@ -6,11 +6,11 @@ use mathlib.Core.Bool.{true, false, not, _&&_, Bool·beq, false≢true}
 use mathlib.Core.List.{List, [], _∷_, map, append-nil}
 use native.Mathlib.Nat.{le-refl}
 use native.Mathlib.Omega.{arith}
-use lib.Dec.{lit<}
+use lib.Dec.{leb, lit<}
 use lib.ListN.{length, length-append, length-map}
 use lib.Ieee.{Float, lt}
 use Rattle.lists.specs.Lists.{isEmpty, Ascends, All, Split, gone}
-use Rattle.lists.proofs.Tests.{choose}
+use Rattle.lists.proofs.Tests.{both, choose}
 use Rattle.lists.proofs.Membership.{elem-head}
 use Rattle.lists.proofs.Rising.{ascends-le}
 use Rattle.lists.proofs.Dealing.{split-none, split-all, split-ascends, split-swap}
@@ -25,7 +25,7 @@ use Rattle.answer.proofs.Theorems.LongestAnswer.{longest-event, longest-cancell
 use Rattle.ledger.proofs.Effects.{Effect, some-end}
 use Rattle.synth.specs.Kinds.{most, isStateOf}
 use Rattle.synth.specs.Levels.{single}
-use Rattle.synth.specs.Channel.{View, kind, withQueue, ids, held, isBusy, idleUnseen, firstAbove}
+use Rattle.synth.specs.Channel.{View, kind, withQueue, ids, held, isBusy, idleUnseen, firstAbove, areLevels}
 use Rattle.synth.specs.States.{Outcome, whileAny, endsOne, endsAll, isMatch, counted, completed}
 use Rattle.synth.specs.Calls.{report, enough}
 use Rattle.synth.specs.Demand3.{accepting, closing, collected}
@@ -103,13 +103,19 @@ module _ (v : View) (f : Facts v) (cause : ℕ) (score : Float) (e : Entry) (q :
   waiting-few : suc (length q) ≤ most (kind v)
   waiting-few = rw eq at (f .few)
 
+  waiting-levels : areLevels q ≡ true
+  waiting-levels =
+      let h : areLevels (e ∷ q) ≡ true = rw eq at (f .thresholds-fit) in
+      both (leb (e .threshold) 1000000) (areLevels q) h .1
+
   first-goes : Split (e .id ∷ ids q) (e .id ∷ []) (ids q)
   first-goes = gone {x = e .id} (split-none (ids q))
 
   -- what is left of the queue, in a state that agrees with it
   left-facts : (s : State) (rest : List Entry) {ended : List ℕ} → Split (e .id ∷ ids q) ended (ids rest) → length rest ≤ most (kind v)
-      → isStateOf (kind v) s ≡ true → Bool·beq (isBusy s) (not (isEmpty rest)) ≡ true → Facts (withQueue s rest v)
-  left-facts s rest d few ours agrees = record {
+      → isStateOf (kind v) s ≡ true → Bool·beq (isBusy s) (not (isEmpty rest)) ≡ true → areLevels rest ≡ true
+      → Facts (withQueue s rest v)
+  left-facts s rest d few ours agrees levels = record {
     named = f .named;
     state-ours = ours;
     busy-held = agrees;
@@ -117,6 +123,8 @@ module _ (v : View) (f : Facts v) (cause : ℕ) (score : Float) (e : Entry) (q :
     few = few;
     rising = split-ascends (split-swap d) 0 (firstAbove (v .last)) (rw eq at (f .rising));
     in-range = f .in-range;
+    editions-fit = f .editions-fit;
+    thresholds-fit = levels;
   }
 
   -- the active one ends alone
@@ -132,7 +140,7 @@ module _ (v : View) (f : Facts v) (cause : ℕ) (score : Float) (e : Entry) (q :
         short = rw (told, append-nil) (event-enough k cause score _ long);
         stays-sound =
             left-facts (whileAny last state q) q first-goes (omega (arith, waiting-few)) (rw told (while-ours k last state q last-ours state-ours))
-            (while-agrees state (e ∷ q) q (λ t. absurd (false≢true t)) (rw busy) last calm);
+            (while-agrees state (e ∷ q) q (λ t. absurd (false≢true t)) (rw busy) last calm) waiting-levels;
       }
 
   -- all end
@@ -156,7 +164,7 @@ module _ (v : View) (f : Facts v) (cause : ℕ) (score : Float) (e : Entry) (q :
               length-append (written (complete Kind.Recognizer (v .name) (e .id) n)) (writtenAll (cancelled (v .name) fits cause score (ids q))),
               cancelled-short (v .name) fits cause score (ids q) waiting-small,
             ));
-        stays-sound = left-facts Recognized [] (split-all (e .id ∷ ids q)) (omega arith) (rw told refl) refl;
+        stays-sound = left-facts Recognized [] (split-all (e .id ∷ ids q)) (omega arith) (rw told refl) refl refl;
       }
 
   pub completed-good : (k : Kind) → kind v ≡ k → cause < length (causeNames k) → GoodEnding v cause score (completed k e q v cause score)

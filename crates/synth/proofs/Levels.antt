@@ -24,8 +24,8 @@ use Rattle.octets.specs.Octets.{isDigit}
 use Rattle.readers.specs.Words.{isNumber, numberOf, decimal}
 use Rattle.writers.specs.Decimal.{threeDigits}
 use Rattle.writers.proofs.Digits.{digits-small, three-all, three-length}
-use Rattle.synth.specs.Levels.{quotient, places}
-use Rattle.synth.specs.Settings.{levelOf, upToOne, levelBy, levelText, isKept}
+use Rattle.synth.specs.Levels.{quotient, levelOf, places, atMostOne, levelIn}
+use Rattle.synth.specs.Settings.{levelText, isKept}
 use Rattle.synth.specs.declared.Level.{Level}
 
 -- ---- the quotient
@@ -117,21 +117,21 @@ abbrev Reads : Option Level → Type 0
 Reads none = Unit {0}
 Reads (some l) = Exact l
 
-up-to-one-reads : (x : ℕ) (ds : Option (List ℕ)) → Short ds → Reads (upToOne x ds)
+up-to-one-reads : (x : ℕ) (ds : Option (List ℕ)) → Short ds → Reads (atMostOne x ds)
 up-to-one-reads x none h = tt
 up-to-one-reads x (some ds) h =
     let n : ℕ = numberOf (x ∷ ds) in
     choose Reads (leb n (10 ^ length ds))
     (λ e. level-exact n (length ds) h (leb-true n (10 ^ length ds) e)) (λ e. tt)
 
-reads : (v : List ℕ) → Reads (levelBy v)
-unfolding levelBy
+reads : (v : List ℕ) → Reads (levelIn v)
+unfolding levelIn
 reads [] = tt
 reads (x ∷ v) =
     choose Reads (eqb x 48 || eqb x 49) (λ e. up-to-one-reads x (places v) (places-short v)) (λ e. tt)
 
 -- what reading gives is the level of its millionths
-pub read-exact : (v : List ℕ) (l : Level) → levelBy v ≡ some l → Exact l
+pub read-exact : (v : List ℕ) (l : Level) → levelIn v ≡ some l → Exact l
 read-exact v l e = subst Reads e (reads v)
 
 -- a level is told by its millionths
@@ -224,17 +224,17 @@ module _ (m : ℕ) (h : m ≤ 1000000) where
       go (suc (suc q)) l = absurd (omega arith)
 
 up-to-one : (x : ℕ) (ds : List ℕ) → leb (numberOf (x ∷ ds)) (10 ^ length ds) ≡ true
-    → upToOne x (some ds) ≡ some (levelOf (numberOf (x ∷ ds)) (length ds))
-up-to-one x ds e = rw (e, upToOne)
+    → atMostOne x (some ds) ≡ some (levelOf (numberOf (x ∷ ds)) (length ds))
+up-to-one x ds e = rw (e, atMostOne)
 
 some-places : (ds : List ℕ) → isNumber 6 ds ≡ true → places (46 ∷ ds) ≡ some ds
 some-places ds e = rw (e, places)
 
 level-at : (x : ℕ) (ds : List ℕ) → eqb x 48 || eqb x 49 ≡ true → isNumber 6 ds ≡ true
     → leb (numberOf (x ∷ ds)) (10 ^ length ds) ≡ true
-    → levelBy (x ∷ 46 ∷ ds) ≡ some (levelOf (numberOf (x ∷ ds)) (length ds))
-unfolding levelBy
-level-at x ds a b c = rw (a, levelBy) (ap (upToOne x) (some-places ds b) ∙ up-to-one x ds c)
+    → levelIn (x ∷ 46 ∷ ds) ≡ some (levelOf (numberOf (x ∷ ds)) (length ds))
+unfolding levelIn
+level-at x ds a b c = rw (a, levelIn) (ap (atMostOne x) (some-places ds b) ∙ up-to-one x ds c)
 
 -- a digit, a point and six digits
 pub level-text : (l : Level) → (h : l .millionths ≤ 1000000)
@@ -243,13 +243,13 @@ level-text l h =
     ap (λ w. w ++ (46 ∷ []) ++ threeDigits (l .millionths / 1000 % 1000) ++ threeDigits (l .millionths % 1000))
     (digits-small (l .millionths / 1000000) (omega arith))
 
-pub level-back : (l : Level) → l .millionths ≤ 1000000 → levelBy (levelText l) ≡ some (levelOf (l .millionths) 6)
+pub level-back : (l : Level) → l .millionths ≤ 1000000 → levelIn (levelText l) ≡ some (levelOf (l .millionths) 6)
 level-back l h =
     let m : ℕ = l .millionths in
     let d : ℕ = 48 + m / 1000000 in
     let within : leb (numberOf (d ∷ six m h)) (10 ^ length (six m h)) ≡ true =
     rw (whole-number m h, six-length m h) (le-leb m 1000000 h) in
-    ap levelBy (level-text l h)
+    ap levelIn (level-text l h)
     ∙ level-at d (six m h) (first-digit m h) (six-number m h) within
     ∙ ap (λ n. some (levelOf n (length (six m h)))) (whole-number m h)
     ∙ ap (λ k. some (levelOf m k)) (six-length m h)

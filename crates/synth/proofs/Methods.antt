@@ -1,23 +1,27 @@
 -- Every judged request has a good outcome, method by method. Assumes nothing.
 use Prim.Native.Nat.{ℕ, _≤_, _<_}
 use mathlib.Core.Path.{_≡_, refl, sym, ap, subst, _∙_}
-use mathlib.Core.Bool.{Bool, true, false, not, Bool·beq, false≢true}
+use mathlib.Core.Bool.{Bool, true, false, not, _&&_, Bool·beq, false≢true}
 use mathlib.Core.Option.{Option}
 use mathlib.Core.List.{List, [], _∷_, map, tail}
+use lib.Dec.{leb}
 use lib.ListN.{length}
 use borrow.Author.Tests.{leb-true, ltb-true}
-use Rattle.lists.specs.Lists.{elem, keep, isEmpty, Split, gone}
-use Rattle.lists.proofs.Tests.{choose}
+use Rattle.lists.specs.Lists.{elem, put, keep, isEmpty, Split, gone}
+use Rattle.lists.proofs.Tests.{both, choose}
 use Rattle.lists.proofs.Dealing.{split-none, split-all, split-keep}
-use Rattle.message.specs.declared.Known.the-variants.{ActiveRequestIdList}
+use Rattle.message.specs.declared.Known.the-variants.{ActiveRequestIdList, KillOnBargeIn, ConfidenceThreshold, FetchTimeout, NoInputTimeout, SensitivityLevel}
 use Rattle.message.specs.declared.RequestState.the-variants.{Complete}
+use Rattle.answer.specs.IdList.{isIdList}
 use Rattle.answer.specs.declared.Kind.{Kind}
 use Rattle.synth.specs.Kinds.{most, isStateOf, methodNumber, methods, methodIn}
-use Rattle.synth.specs.Channel.{View, kind, withLast, ids, held, is, isBusy, firstAbove}
+use Rattle.synth.specs.Channel.{View, kind, withLast, ids, held, is, isBusy, firstAbove, areLevels}
+use Rattle.synth.specs.Levels.{isLevel}
+use Rattle.synth.specs.Settings.{killOnBargeIn, fetchTimeout, noInputTimeout, confidenceThreshold, sensitivityLevel, settings, isFlag, isMillis, newest}
 use Rattle.synth.specs.Request.{Request, opens, acting}
 use Rattle.synth.specs.Demand3.{isEnding}
-use Rattle.synth.specs.Judgement.{Verdict, passes, fails, isOfKind, ofKind, isValid, above, valid, capacity, early, late}
-use Rattle.synth.specs.States.{succeeded, enter, whileAny, ends, stop, bargeIn, active, pause, resume, control, startTimers, act, afterLate, afterEarly, judge}
+use Rattle.synth.specs.Judgement.{Verdict, passes, fails, optional, legal, isOfKind, ofKind, isValid, above, valid, capacity, early, late}
+use Rattle.synth.specs.States.{succeeded, enter, whileAny, ends, stop, bargeIn, active, pause, resume, control, startTimers, changed, setParams, act, afterLate, afterEarly, judge}
 use Rattle.synth.specs.declared.State.{State}
 use Rattle.synth.specs.declared.State.the-variants.{Idle, Speaking, Paused, Recognizing, Recognized}
 use Rattle.synth.specs.declared.Method.{Method}
@@ -25,7 +29,8 @@ use Rattle.synth.specs.declared.Entry.{Entry}
 use Rattle.synth.specs.declared.LastId.the-variants.{Seen}
 use Rattle.synth.proofs.Channels.{Facts}
 use Rattle.synth.proofs.Verdicts.{then-passes, unless-passes, opening-passes, failing, early-fair, late-fair, Fair}
-use Rattle.synth.proofs.Outcomes.{Good, early-failed, seen, late-failed, accepted, unchanged, ended}
+use Rattle.synth.proofs.Outcomes.{Good, early-failed, seen, now-own, late-failed, accepted, unchanged, ended, edited, tells}
+use Rattle.synth.proofs.Editions.{AllLegal, changed-own}
 
 split-active : (q : List Entry) → Split (ids q) (active q) (ids (tail q))
 split-active [] = split-none []
@@ -87,6 +92,54 @@ keep-empty : (p : Entry → Bool) (q : List Entry) → isEmpty q ≡ true → is
 keep-empty p [] h = refl
 keep-empty p (e ∷ q) h = absurd (false≢true h)
 
+keep-levels : (p : Entry → Bool) (q : List Entry) → areLevels q ≡ true → areLevels (keep p q) ≡ true
+keep-levels p [] h = refl
+keep-levels p (e ∷ q) h = go (p e) (keep-levels p q (both (leb (e .threshold) 1000000) (areLevels q) h .1))
+  where
+    go : (b : Bool) → areLevels (keep p q) ≡ true → areLevels (put b e (keep p q)) ≡ true
+    go true i = rw (both (leb (e .threshold) 1000000) (areLevels q) h .0) i
+    go false i = i
+
+-- what judgement 6 passes is legal for each setting
+module _ (r : Request) (e : legal r ≡ passes) where
+  abbrev flags : Bool
+  flags = optional isFlag (acting KillOnBargeIn r)
+
+  abbrev lists : Bool
+  lists = optional isIdList (acting ActiveRequestIdList r)
+
+  abbrev confidences : Bool
+  confidences = optional isLevel (acting ConfidenceThreshold r)
+
+  abbrev fetches : Bool
+  fetches = optional isMillis (acting FetchTimeout r)
+
+  abbrev silences : Bool
+  silences = optional isMillis (acting NoInputTimeout r)
+
+  abbrev sensitivities : Bool
+  sensitivities = optional isLevel (acting SensitivityLevel r)
+
+  six : (flags && lists && confidences && fetches && silences ≡ true) × (sensitivities ≡ true)
+  unfolding legal
+  six = both (flags && lists && confidences && fetches && silences) sensitivities (unless-passes _ 404 e)
+
+  five : (flags && lists && confidences && fetches ≡ true) × (silences ≡ true)
+  five = both (flags && lists && confidences && fetches) silences (six .0)
+
+  four : (flags && lists && confidences ≡ true) × (fetches ≡ true)
+  four = both (flags && lists && confidences) fetches (five .0)
+
+  three : (flags && lists ≡ true) × (confidences ≡ true)
+  three = both (flags && lists) confidences (four .0)
+
+  pub legal-each : AllLegal r
+  legal-each killOnBargeIn = both flags lists (three .0) .0
+  legal-each fetchTimeout = four .1
+  legal-each noInputTimeout = five .1
+  legal-each confidenceThreshold = three .1
+  legal-each sensitivityLevel = six .1
+
 module _ (v : View) (f : Facts v) (r : Request) (small : r .id < 4294967296) (above : firstAbove (v .last) ≤ r .id) where
   enter-good : (m : Method) → opens m ≡ true → isEnding m ≡ false → (s : State) → isBusy s ≡ true → isStateOf (kind v) s ≡ true
       → length (v .queue) < most (kind v) → Good v m (r .id) (enter s (seen v f r small above) r)
@@ -101,15 +154,17 @@ module _ (v : View) (f : Facts v) (r : Request) (small : r .id < 4294967296) (ab
       (split-keep (λ (e : Entry). e .id) (ends list) (v .queue))
       (while-agrees (v .state) (v .queue) rest (keep-empty (λ e. not (ends list e)) (v .queue)) (f .busy-held) Idle refl)
       (while-ours (kind v) Idle (v .state) rest (idle-ours (kind v)) (f .state-ours))
+      (keep-levels (λ e. not (ends list e)) (v .queue) (f .thresholds-fit))
 
   nothing-ends : Good v Method.BargeInOccurred (r .id) (succeeded (seen v f r small above) r Complete [] (v .state) (v .queue))
   nothing-ends = ended v f r small above Method.BargeInOccurred refl refl [] (v .state) (v .queue) (split-none (held v)) (f .busy-held) (f .state-ours)
+      (f .thresholds-fit)
 
   barge-good : (q : List Entry) → Good v Method.BargeInOccurred (r .id) (bargeIn q (seen v f r small above) r)
   barge-good [] = nothing-ends
   barge-good (e ∷ q) =
       choose (Good v Method.BargeInOccurred (r .id)) (e .kill)
-      (λ t. ended v f r small above Method.BargeInOccurred refl refl (held v) Idle [] (split-all (held v)) refl (idle-ours (kind v)))
+      (λ t. ended v f r small above Method.BargeInOccurred refl refl (held v) Idle [] (split-all (held v)) refl (idle-ours (kind v)) refl)
       (λ t. nothing-ends)
 
   pause-good : Has (kind v) Method.Pause → isBusy (v .state) ≡ true → Good v Method.Pause (r .id) (pause (seen v f r small above) r)
@@ -128,31 +183,43 @@ module _ (v : View) (f : Facts v) (r : Request) (small : r .id < 4294967296) (ab
   timers-good : Good v Method.StartInputTimers (r .id) (startTimers (seen v f r small above) r)
   timers-good = unchanged v f r small above Method.StartInputTimers refl refl [] (v .state) (split-none (held v)) refl (f .state-ours)
 
-  act-good : (m : Method) → Has (kind v) m → isValid m (isBusy (v .state)) ≡ true → (opens m ≡ true → length (v .queue) < most (kind v))
+  set-good : legal r ≡ passes → Good v Method.SetParams (r .id) (setParams (seen v f r small above) r)
+  set-good l =
+      edited v f r small above Method.SetParams refl refl (changed (settings (kind v)) r (newest (v .editions)))
+      (changed-own (kind v) r (legal-each r l) (newest (v .editions)) (now-own v f r small above))
+
+  act-good : (m : Method) → Has (kind v) m → legal r ≡ passes → isValid m (isBusy (v .state)) ≡ true → (opens m ≡ true → length (v .queue) < most (kind v))
       → Good v m (r .id) (act m (seen v f r small above) r)
   unfolding act
-  act-good Method.Speak has ok few = enter-good Method.Speak refl refl Speaking refl (speaking-ours (kind v) has) (few refl)
-  act-good Method.Stop has ok few = stop-good (acting ActiveRequestIdList r)
-  act-good Method.Pause has ok few = pause-good has (busy-valid (isBusy (v .state)) ok)
-  act-good Method.Resume has ok few = resume-good has
-  act-good Method.Control has ok few = control-good
-  act-good Method.BargeInOccurred has ok few = barge-good (v .queue)
-  act-good Method.Unknown has ok few = late-failed v f r small above Method.Unknown 401 refl
-  act-good Method.Recognize has ok few = enter-good Method.Recognize refl refl Recognizing refl (recognizing-ours (kind v) has) (few refl)
-  act-good Method.StartInputTimers has ok few = timers-good
+  act-good Method.Speak has lawful ok few = enter-good Method.Speak refl refl Speaking refl (speaking-ours (kind v) has) (few refl)
+  act-good Method.Stop has lawful ok few = stop-good (acting ActiveRequestIdList r)
+  act-good Method.Pause has lawful ok few = pause-good has (busy-valid (isBusy (v .state)) ok)
+  act-good Method.Resume has lawful ok few = resume-good has
+  act-good Method.Control has lawful ok few = control-good
+  act-good Method.BargeInOccurred has lawful ok few = barge-good (v .queue)
+  act-good Method.Unknown has lawful ok few = late-failed v f r small above Method.Unknown 401 refl
+  act-good Method.Recognize has lawful ok few = enter-good Method.Recognize refl refl Recognizing refl (recognizing-ours (kind v) has) (few refl)
+  act-good Method.StartInputTimers has lawful ok few = timers-good
+  act-good Method.SetParams has lawful ok few = set-good lawful
+  act-good Method.GetParams has lawful ok few = tells v f r small above Method.GetParams refl refl
 
-  -- what judgements 7, 8 and 10 leave
+  -- what judgements 6, 7, 8 and 10 leave
+  late-legal : late (seen v f r small above) r ≡ passes → legal r ≡ passes
+  unfolding late
+  late-legal e = then-passes _ _ (then-passes _ _ e .1) .0
+
   late-known : late (seen v f r small above) r ≡ passes → isOfKind (r .method) ≡ true
   unfolding late ofKind
-  late-known e = unless-passes _ 401 (then-passes _ _ (then-passes _ _ e .1) .0)
+  late-known e = unless-passes _ 401 (then-passes _ _ (then-passes _ _ (then-passes _ _ e .1) .1) .0)
 
   late-valid : late (seen v f r small above) r ≡ passes → isValid (r .method) (isBusy (v .state)) ≡ true
   unfolding late valid
-  late-valid e = unless-passes _ 402 (then-passes _ _ (then-passes _ _ (then-passes _ _ e .1) .1) .0)
+  late-valid e = unless-passes _ 402 (then-passes _ _ (then-passes _ _ (then-passes _ _ (then-passes _ _ e .1) .1) .1) .0)
 
   late-room : late (seen v f r small above) r ≡ passes → opens (r .method) ≡ true → length (v .queue) < most (kind v)
   unfolding late capacity
-  late-room e s = ltb-true (length (v .queue)) (most (kind v)) (unless-passes _ 407 (opening-passes r _ s (then-passes _ _ (then-passes _ _ (then-passes _ _ (then-passes _ _ e .1) .1) .1) .1)))
+  late-room e s = ltb-true (length (v .queue)) (most (kind v)) (unless-passes _ 407 (opening-passes r _ s
+      (then-passes _ _ (then-passes _ _ (then-passes _ _ (then-passes _ _ (then-passes _ _ e .1) .1) .1) .1) .1)))
 
   -- a request that judgement 7 passes has the method that it names
   known-has : (m : Method) → r .method ≡ methodIn (kind v) m → isOfKind (r .method) ≡ true → Has (kind v) m × (r .method ≡ m)
@@ -167,7 +234,7 @@ module _ (v : View) (f : Facts v) (r : Request) (small : r .id < 4294967296) (ab
   late-good m told passes e h =
       let k = known-has m told (late-known e) in
       subst (λ (n : Method). Good v m (r .id) (act n (seen v f r small above) r)) (sym (k .1))
-      (act-good m (k .0) (subst (λ (n : Method). isValid n (isBusy (v .state)) ≡ true) (k .1) (late-valid e))
+      (act-good m (k .0) (late-legal e) (subst (λ (n : Method). isValid n (isBusy (v .state)) ≡ true) (k .1) (late-valid e))
       (λ o. late-room e (ap opens (k .1) ∙ o)))
   late-good m told (fails status) e h = late-failed v f r small above m status (failing status h)
 

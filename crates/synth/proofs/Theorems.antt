@@ -7,6 +7,15 @@ pub mod Thresholds
 pub mod LevelLaw
 pub mod Readable
 pub mod Editions
+pub mod Params
+pub mod Forbidden
+pub mod SettingsReadBack
+pub mod LongestTold
+pub mod GoingBack
+pub mod EditionsMade
+pub mod OfTheMoment
+pub mod SoundOrNot
+pub mod SettingsExamples
 pub mod SettingsTable
 pub mod Scores
 pub mod Readings

@@ -2,8 +2,10 @@
 use Prim.Native.Nat.{ℕ, _≤_, _<_}
 use mathlib.Core.Path.{_≡_, refl, sym, subst}
 use mathlib.Core.Bool.{true, false}
+use mathlib.Core.Option.{Option, none, some}
 use mathlib.Core.List.{List, [], _∷_}
 use mathlib.Core.Logic.{_⊎_, inl, inr}
+use native.Mathlib.Nat.{le-refl}
 use native.Mathlib.Omega.{arith}
 use lib.Dec.{eqb, ltb}
 use lib.ListN.{length}
@@ -19,16 +21,19 @@ use Rattle.answer.specs.Written.{writtenAll}
 use Rattle.answer.specs.Writable.{Writable}
 use Rattle.answer.specs.Answers.{causeNames}
 use Rattle.ledger.specs.Ledger.{Turn}
-use Rattle.ledger.proofs.Effects.{Effect}
-use Rattle.synth.specs.Channel.{View, kind, held, firstAbove, sound}
+use Rattle.ledger.proofs.Effects.{Effect, nothing}
+use Rattle.synth.specs.Channel.{View, kind, withEdition, held, firstAbove, sound}
+use Rattle.synth.specs.Settings.{editionAt}
 use Rattle.synth.specs.Request.{methodOf, requestOf}
 use Rattle.synth.specs.States.{Outcome, judge, completed}
-use Rattle.synth.specs.Calls.{Lent, input, report, Call, Reply, refuse, deliver, answer, awaits, isNoScore, isNoCause, ending, reported, enough, onSound, call}
+use Rattle.synth.specs.Calls.{Lent, input, report, back, Call, Reply, refuse, deliver, answer, awaits, isNoScore, isNoCause, ending, reported, goingBack, goneBack, enough, onSound, call}
 use Rattle.synth.specs.Demand3.{askedBy, acceptedBy, closedBy, accepting, closing, collected}
 use Rattle.synth.specs.declared.Entry.{Entry}
+use Rattle.synth.specs.declared.Edition.{Edition}
 use Rattle.synth.proofs.Channels.{Facts, sound-facts, facts-sound}
 use Rattle.synth.proofs.Methods.{judge-good}
 use Rattle.synth.proofs.Endings.{completed-good}
+use Rattle.synth.proofs.Editions.{edition-joins, kept-own}
 
 -- a refusal writes no byte and keeps the channel as it was
 pub record Refuses (v : View) (t : Turn View Reply) : Type 0 where
@@ -106,9 +111,42 @@ module _ (v : View) (f : Facts v) (room : ℕ) where
         (λ u. choose Reports (awaits (v .state)) (λ w. ending-law (v .queue) refl (leb-false (length (causeNames (kind v))) cause t))
         (λ w. refused-report 8 (λ q. omega arith) (λ q. omega arith))))
 
+  -- a going back says nothing, and changes the editions alone
+  back-law : (n : ℕ) (o : Option Edition) → editionAt n (v .editions) ≡ o → Lawful v (back n) room (goingBack o v)
+  unfolding writtenAll
+  back-law n none e = refuse-law v (back n) room 12 0 (λ q. omega arith) (λ q. omega arith)
+  back-law n (some x) e = record {
+    does =
+        inr (record {
+          says = [];
+          number = refl;
+          written = refl;
+          writable = tt;
+          effect = nothing (held v) (firstAbove (v .last)) (firstAbove (v .last)) (le-refl _);
+          stays-sound = facts-sound (withEdition x v) further;
+        });
+    roomy = λ h q. omega arith;
+  }
+    where
+      further : Facts (withEdition x v)
+      further = record {
+        named = f .named;
+        state-ours = f .state-ours;
+        busy-held = f .busy-held;
+        unseen = f .unseen;
+        few = f .few;
+        rising = f .rising;
+        in-range = f .in-range;
+        editions-fit =
+            edition-joins (kind v) x (v .editions) (kept-own (kind v) n (v .editions) x e (f .editions-fit))
+            (f .editions-fit);
+        thresholds-fit = f .thresholds-fit;
+      }
+
   on-sound : (lent : Lent) → Lawful v lent room (onSound lent v room)
   on-sound (input s) = answer-law s (readBytes s) refl
   on-sound (report cause score) = reported-law cause score
+  on-sound (back n) = unfold goneBack in back-law n (editionAt n (v .editions)) refl
 
 pub call-law : (v : View) (c : Call) → Lawful v (c .lent) (c .room) (call v c)
 unfolding call

@@ -11,7 +11,7 @@ use Rattle.lists.proofs.Tests.{choose}
 use Rattle.lists.proofs.Membership.{all-elem}
 use Rattle.synth.specs.Channel.{View}
 use Rattle.synth.specs.Request.{Request, opens}
-use Rattle.synth.specs.Judgement.{Verdict, passes, fails, _then_, unless, inOpening, version, wellFormed, addressed, ours, above, legal, ofKind, valid, content, capacity, early, late}
+use Rattle.synth.specs.Judgement.{Verdict, passes, fails, _then_, unless, inOpening, version, wellFormed, addressed, ours, above, permitted, legal, ofKind, valid, content, capacity, early, late}
 
 pub then-passes : (a b : Verdict) → (a then b) ≡ passes → (a ≡ passes) × (b ≡ passes)
 unfolding _then_
@@ -32,7 +32,7 @@ opening-passes r v s e = go (opens (r .method)) s e
 
 -- the statuses of requests that fail: three digits, and neither 200 nor 201
 abbrev pub failures : List ℕ
-failures = 401 ∷ 402 ∷ 404 ∷ 405 ∷ 406 ∷ 407 ∷ 408 ∷ 409 ∷ 410 ∷ 502 ∷ []
+failures = 401 ∷ 402 ∷ 403 ∷ 404 ∷ 405 ∷ 406 ∷ 407 ∷ 408 ∷ 409 ∷ 410 ∷ 502 ∷ []
 
 abbrev pub isFailure : ℕ → Bool
 isFailure status = elem status failures
@@ -91,10 +91,11 @@ module _ (v : View) (r : Request) where
       (unless-fair _ _ refl)))
 
   pub late-fair : Fair (late v r)
-  unfolding late legal ofKind valid capacity
+  unfolding late permitted legal ofKind valid capacity
   late-fair =
       then-fair (unless-fair _ _ refl)
       (then-fair (unless-fair _ _ refl)
       (then-fair (unless-fair _ _ refl)
+      (then-fair (unless-fair _ _ refl)
       (then-fair content-fair
-      (opening-fair r (unless-fair _ _ refl)))))
+      (opening-fair r (unless-fair _ _ refl))))))

@@ -1,6 +1,7 @@
--- Opening, client message and engine report: document 01, "Refusal numbers", and document 02, K1.
+-- Opening, client message, engine report and going back: document 01, "Refusal numbers", and document 02, K1 and K5.
 use Prim.Native.Nat.{ℕ}
 use mathlib.Core.Bool.{Bool, true, false, _||_}
+use mathlib.Core.Option.{Option, none, some}
 use mathlib.Core.List.{List, [], _∷_}
 use lib.Dec.{leb, ltb}
 use lib.Ieee.{Float, isNan}
@@ -11,17 +12,20 @@ use Rattle.answer.specs.Written.{writtenAll}
 use Rattle.answer.specs.Answers.{causeNames}
 use Rattle.answer.specs.declared.Kind.{Kind}
 use Rattle.ledger.specs.Ledger.{Turn}
-use Rattle.synth.specs.Channel.{View, kind, is, fresh, wellNamed, sound}
+use Rattle.synth.specs.Settings.{editionAt}
+use Rattle.synth.specs.Channel.{View, kind, is, withEdition, fresh, wellNamed, sound}
 use Rattle.synth.specs.Request.{requestOf}
 use Rattle.synth.specs.States.{Outcome, judge, completed}
 use Rattle.synth.specs.declared.State.{State}
 use Rattle.synth.specs.declared.State.the-variants.{Speaking, Recognizing}
 use Rattle.synth.specs.declared.Entry.{Entry}
+use Rattle.synth.specs.declared.Edition.{Edition}
 
--- what is handed in: the lent input, or the report's cause and score
+-- what is handed in: the lent input, the report's cause and score, or the number of the edition to go back to
 pub data Lent : Type 0 where
   input : List ℕ → Lent
   report : ℕ → Float → Lent
+  back : ℕ → Lent
 
 -- a call, with the length of its lent output
 pub record Call : Type 0 where
@@ -80,17 +84,27 @@ reported v cause score room = elim (isNoCause (kind v) cause) [
   ]
 ]
 
+-- 12: a number not kept; else a further edition equal to that one, and nothing is written
+abbrev pub goingBack : Option Edition → View → Turn View Reply
+goingBack none v = refuse v 12 0
+goingBack (some e) v = record { reply = record { number = 0; consumed = 0; written = [] }; next = withEdition e v }
+
+unfoldable pub goneBack : View → ℕ → Turn View Reply
+goneBack v n = goingBack (editionAt n (v .editions)) v
+
 abbrev pub onSound : Lent → View → ℕ → Turn View Reply
 onSound (input s) v room = answer v room (readBytes s)
 onSound (report cause score) v room = reported v cause score room
+onSound (back n) v room = goneBack v n
 
 -- so many bytes of output never meet refusal 7
 abbrev pub enough : Kind → Lent → ℕ
 enough kind (input s) = 305
 enough Kind.Synthesizer (report cause score) = 305
 enough Kind.Recognizer (report cause score) = 1250
+enough kind (back n) = 0
 
--- a client message or an engine report on a channel; 21 before all
+-- a client message, an engine report or a going back on a channel; 21 before all
 unfoldable pub call : View → Call → Turn View Reply
 call v c = elim (sound v) [ true ↦ onSound (c .lent) v (c .room) | false ↦ refuse v 21 0 ]
 

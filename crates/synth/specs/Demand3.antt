@@ -1,5 +1,5 @@
 -- The ledger of a channel's calls, and demand 3: document 01, "How tight the promises are", and
--- document 02, K1.
+-- document 02, K1 and K5.
 use Prim.Native.Nat.{ℕ}
 use mathlib.Core.Path.{_≡_}
 use mathlib.Core.Bool.{Bool, true, false, _&&_, _||_}
@@ -15,7 +15,7 @@ use Rattle.answer.specs.IdList.{idsOf}
 use Rattle.ledger.specs.Ledger.{Exchange, Balanced, Run, after, trace}
 use Rattle.synth.specs.Channel.{View, held}
 use Rattle.synth.specs.Request.{methodOf, is, opens}
-use Rattle.synth.specs.Calls.{Lent, input, report, Call, Reply, call, openChannel}
+use Rattle.synth.specs.Calls.{Lent, input, report, back, Call, Reply, call, openChannel}
 use Rattle.synth.specs.declared.Method.{Method}
 
 -- the method and the id of the request at the front of the input
@@ -69,11 +69,13 @@ eventId (event name id state) = id ∷ []
 abbrev pub accepting : Lent → Message → List ℕ
 accepting (input s) m = acceptedBy (askedBy (readBytes s)) m
 accepting (report cause score) m = []
+accepting (back n) m = []
 
 -- a report puts the id of each event written at the end of closed
 abbrev pub closing : Lent → Message → List ℕ
 closing (input s) m = closedBy (askedBy (readBytes s)) m
 closing (report cause score) m = eventId (m .start)
+closing (back n) m = []
 
 abbrev pub collected : (Message → List ℕ) → List Message → List ℕ
 collected f [] = []

@@ -1,20 +1,23 @@
 -- The order of judgement for a request, in eleven steps: document 01, "The order of judgement for a request", and
--- document 02, K1.
+-- document 02, K1 and K5.
 use Prim.Native.Nat.{ℕ}
 use mathlib.Core.Bool.{Bool, true, false, _&&_, _||_, not}
 use mathlib.Core.Option.{Option, none, some}
 use mathlib.Core.List.{List}
 use lib.Dec.{eqb, leb, ltb}
 use lib.ListN.{length}
-use Rattle.lists.specs.Lists.{same, isEmpty}
+use Rattle.lists.specs.Lists.{all, same, isEmpty}
 use Rattle.octets.specs.Octets.{bytes, alike}
+use Rattle.message.specs.Message.{fieldsIn}
+use Rattle.message.specs.Known.{namesOf}
 use Rattle.message.specs.Reading.{bodyIn}
-use Rattle.message.specs.declared.Known.the-variants.{ChannelIdentifier, ContentLength, ContentType, ActiveRequestIdList, KillOnBargeIn, ConfidenceThreshold}
+use Rattle.message.specs.declared.Known.the-variants.{ChannelIdentifier, ContentLength, ContentType, ActiveRequestIdList, KillOnBargeIn, ConfidenceThreshold, FetchTimeout, NoInputTimeout, SensitivityLevel}
 use Rattle.answer.specs.IdList.{isIdList}
 use Rattle.synth.specs.Levels.{isLevel}
+use Rattle.synth.specs.Settings.{mayStand, isFlag, isMillis}
 use Rattle.synth.specs.Kinds.{most}
 use Rattle.synth.specs.Channel.{View, kind, isBusy, firstAbove}
-use Rattle.synth.specs.Request.{Request, is, isSpeak, opens, isGood, acting, ignoresAny}
+use Rattle.synth.specs.Request.{Request, is, isSpeak, opens, isParams, isGood, acting, ignoresAny}
 use Rattle.synth.specs.declared.Method.{Method}
 
 -- a step passes, or fails with a status
@@ -65,16 +68,19 @@ ours v r = unless (given (same (v .name)) (acting ChannelIdentifier r)) 405
 unfoldable pub above : View → Request → Verdict
 above v r = unless (leb (firstAbove (v .last)) (r .id)) 410
 
--- `true` or `false` in any case
-abbrev pub isFlag : List ℕ → Bool
-isFlag v = alike v (bytes "true") || alike v (bytes "false")
+-- 6. in SET-PARAMS and GET-PARAMS, a field neither a setting of this kind nor one that acts everywhere or nowhere: 403
+unfoldable pub permitted : View → Request → Verdict
+permitted v r = unless (not (isParams (r .method)) || all (mayStand (kind v)) (namesOf (fieldsIn (r .fields)))) 403
 
--- 6. an acting field's value is illegal: 404
+-- and then: an acting field's value is illegal: 404
 unfoldable pub legal : Request → Verdict
 legal r =
     unless (optional isFlag (acting KillOnBargeIn r)
     && optional isIdList (acting ActiveRequestIdList r)
-    && optional isLevel (acting ConfidenceThreshold r)) 404
+    && optional isLevel (acting ConfidenceThreshold r)
+    && optional isMillis (acting FetchTimeout r)
+    && optional isMillis (acting NoInputTimeout r)
+    && optional isLevel (acting SensitivityLevel r)) 404
 
 -- a method that the channel's kind lacks has become unknown
 abbrev pub isOfKind : Method → Bool
@@ -130,4 +136,4 @@ early v r = version r then wellFormed r then addressed r then ours v r then abov
 
 -- 6 to 10: the last id seen has become this one, whatever the answer
 unfoldable pub late : View → Request → Verdict
-late v r = legal r then ofKind r then valid v r then content r then capacity v r
+late v r = permitted v r then legal r then ofKind r then valid v r then content r then capacity v r

@@ -1,4 +1,4 @@
--- What each kind of channel has: document 01, "Numbers" and "States and queue", and document 02, K1.
+-- What each kind of channel has: document 01, "Numbers" and "States and queue", and document 02, K1 and K5.
 use Prim.Native.Nat.{ℕ, _-_}
 use mathlib.Core.Bool.{Bool, true, false}
 use mathlib.Core.List.{List, [], _∷_, map}
@@ -44,6 +44,8 @@ methodNumber Method.Control = 5
 methodNumber Method.BargeInOccurred = 6
 methodNumber Method.Recognize = 7
 methodNumber Method.StartInputTimers = 8
+methodNumber Method.SetParams = 9
+methodNumber Method.GetParams = 10
 
 -- the states of a kind
 abbrev pub states : Kind → List State
@@ -55,8 +57,10 @@ isStateOf kind state = elem (stateNumber state) (map stateNumber (states kind))
 
 -- the methods of a kind
 abbrev pub methods : Kind → List Method
-methods Kind.Synthesizer = Method.Speak ∷ Method.Stop ∷ Method.Pause ∷ Method.Resume ∷ Method.Control ∷ Method.BargeInOccurred ∷ []
-methods Kind.Recognizer = Method.Recognize ∷ Method.Stop ∷ Method.StartInputTimers ∷ []
+methods Kind.Synthesizer =
+    Method.Speak ∷ Method.Stop ∷ Method.Pause ∷ Method.Resume ∷ Method.Control ∷ Method.BargeInOccurred ∷ Method.SetParams
+    ∷ Method.GetParams ∷ []
+methods Kind.Recognizer = Method.Recognize ∷ Method.Stop ∷ Method.StartInputTimers ∷ Method.SetParams ∷ Method.GetParams ∷ []
 
 -- the method, where a channel of that kind has it: one of the other kind's is as unknown as any other name
 abbrev pub methodIn : Kind → Method → Method

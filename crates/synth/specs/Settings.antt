@@ -1,19 +1,21 @@
--- Settings and their editions, for document 02, K5. They stand beside what a channel has: no call reads or keeps one
--- yet.
-use Prim.Native.Nat.{ℕ, zero, suc, _-_, _*_, _/_, _%_, _^_}
+-- Settings and their editions: document 02, K5.
+use Prim.Native.Nat.{ℕ, zero, suc, _/_, _%_}
 use mathlib.Core.Bool.{Bool, true, false, _&&_, _||_}
 use mathlib.Core.Option.{Option, none, some}
-use mathlib.Core.List.{List, [], _∷_, _++_}
+use mathlib.Core.List.{List, [], _∷_, _++_, map}
 use lib.Dec.{eqb, leb, ltb}
 use lib.Ieee.{binary32, toBits}
-use lib.ListN.{length, take}
-use Rattle.lists.specs.Lists.{all}
+use lib.ListN.{take}
+use Rattle.lists.specs.Lists.{all, keep}
 use Rattle.octets.specs.Octets.{bytes, alike}
 use Rattle.readers.specs.Words.{isNumber, numberOf}
 use Rattle.writers.specs.Decimal.{digits, threeDigits}
+use Rattle.message.specs.Message.{Field}
+use Rattle.message.specs.Known.{among}
+use Rattle.message.specs.declared.Known.{Known}
+use Rattle.message.specs.declared.Known.the-variants.{ChannelIdentifier, ContentLength, KillOnBargeIn, ProxySyncId, LoggingTag, ConfidenceThreshold, FetchTimeout, NoInputTimeout, SensitivityLevel}
 use Rattle.answer.specs.declared.Kind.{Kind}
-use Rattle.synth.specs.Levels.{quotient, places, isLevel}
-use Rattle.synth.specs.Judgement.{isFlag}
+use Rattle.synth.specs.Levels.{quotient, levelIn, isLevel}
 use Rattle.synth.specs.declared.Level.{Level}
 use Rattle.synth.specs.declared.Setting.{Setting}
 use Rattle.synth.specs.declared.Edition.{Edition}
@@ -38,6 +40,14 @@ sortOf fetchTimeout = millis
 sortOf noInputTimeout = millis
 sortOf confidenceThreshold = level
 sortOf sensitivityLevel = level
+
+-- the field that names it
+abbrev pub fieldOf : Name → Known
+fieldOf killOnBargeIn = KillOnBargeIn
+fieldOf fetchTimeout = FetchTimeout
+fieldOf noInputTimeout = NoInputTimeout
+fieldOf confidenceThreshold = ConfidenceThreshold
+fieldOf sensitivityLevel = SensitivityLevel
 
 abbrev pub spelling : Name → List ℕ
 spelling killOnBargeIn = bytes "Kill-On-Barge-In"
@@ -71,24 +81,16 @@ withSlot sensitivityLevel x e = edition (e .kill) (e .fetch) (e .silence) (e .co
 abbrev pub unset : Edition
 unset = edition Setting.Unset Setting.Unset Setting.Unset Setting.Unset Setting.Unset
 
+-- a setting of this kind, or a field that in document 01 acts everywhere or nowhere
+abbrev pub mayStand : Kind → Known → Bool
+mayStand kind k =
+    among k (map fieldOf (settings kind)) || among k (ChannelIdentifier ∷ ContentLength ∷ ProxySyncId ∷ LoggingTag ∷ [])
+
 -- ---- values read
 
--- the digits n, of which k stand behind the point: their millionths, and the quotient of which K1 keeps the bits
-abbrev pub levelOf : ℕ → ℕ → Level
-levelOf n k = record { millionths = n * 10 ^ (6 - k); single = quotient n (10 ^ k) }
-
--- at most one
-abbrev pub upToOne : ℕ → Option (List ℕ) → Option Level
-upToOne x none = none
-upToOne x (some ds) = elim (leb (numberOf (x ∷ ds)) (10 ^ length ds)) [
-  | true ↦ some (levelOf (numberOf (x ∷ ds)) (length ds))
-  | false ↦ none
-]
-
--- a level as `levelIn` reads it, with its millionths
-unfoldable pub levelBy : List ℕ → Option Level
-levelBy [] = none
-levelBy (x ∷ v) = elim (eqb x 48 || eqb x 49) [ true ↦ upToOne x (places v) | false ↦ none ]
+-- `true` or `false` in any case
+abbrev pub isFlag : List ℕ → Bool
+isFlag v = alike v (bytes "true") || alike v (bytes "false")
 
 -- milliseconds: 1 to 19 digits
 abbrev pub isMillis : List ℕ → Bool
@@ -111,7 +113,7 @@ levelOr (some l) = Setting.Level l
 abbrev pub settingAs : Sort → List ℕ → Setting
 settingAs flag v = Setting.Flag (alike v (bytes "true"))
 settingAs millis v = Setting.Millis (numberOf v)
-settingAs level v = levelOr (levelBy v)
+settingAs level v = levelOr (levelIn v)
 
 abbrev pub settingIn : Name → List ℕ → Setting
 settingIn n v = settingAs (sortOf n) v
@@ -131,6 +133,17 @@ settingText (Setting.Flag true) = bytes "true"
 settingText (Setting.Flag false) = bytes "false"
 settingText (Setting.Millis n) = digits n
 settingText (Setting.Level l) = levelText l
+
+abbrev pub settingField : Edition → Name → Field (List ℕ)
+settingField e n = record { name = spelling n; value = settingText (slot n e) }
+
+-- the settings named, or all where none is, in the order of the answer
+abbrev pub orAll : List Name → List Name → List Name
+orAll [] own = own
+orAll (n ∷ ns) own = n ∷ ns
+
+abbrev pub named : List Known → List Name → List Name
+named given own = orAll (keep (λ n. among (fieldOf n) given) own) own
 
 -- ---- settings that reading can give
 
@@ -172,6 +185,11 @@ isEditionOf kind e =
     all (λ n. keptFor n (slot n e)) (settings kind) && all (λ n. isUnset (slot n e)) (settings (otherKind kind))
 
 -- ---- editions, the newest first
+
+-- the edition of the moment
+abbrev pub newest : List Edition → Edition
+newest [] = unset
+newest (e ∷ es) = e
 
 -- a further one: the newest four are kept
 abbrev pub further : Edition → List Edition → List Edition

@@ -1,27 +1,32 @@
--- States and queue, method by method: document 01, "States and queue", and document 02, K1.
+-- States and queue, method by method: document 01, "States and queue", and document 02, K1 and K5.
 use Prim.Native.Nat.{ℕ}
 use mathlib.Core.Bool.{Bool, true, false, not, _&&_, _||_}
 use mathlib.Core.Option.{Option, none, some}
-use mathlib.Core.List.{List, [], _∷_, _++_}
+use mathlib.Core.List.{List, [], _∷_, _++_, map}
 use lib.Dec.{eqb}
 use lib.Ieee.{Float, lt}
 use Rattle.lists.specs.Lists.{elem, keep}
 use Rattle.octets.specs.Octets.{bytes, alike}
-use Rattle.message.specs.Message.{Message}
+use Rattle.message.specs.Message.{Message, Field, fieldsIn}
+use Rattle.message.specs.Known.{namesOf}
 use Rattle.message.specs.declared.Known.the-variants.{ActiveRequestIdList, KillOnBargeIn, ConfidenceThreshold}
 use Rattle.message.specs.declared.RequestState.{RequestState}
 use Rattle.message.specs.declared.RequestState.the-variants.{Pending, InProgress, Complete}
 use Rattle.answer.specs.IdList.{idsOf}
-use Rattle.answer.specs.Answers.{response, completes}
+use Rattle.answer.specs.Answers.{response, telling, completes}
 use Rattle.answer.specs.declared.Kind.{Kind}
 use Rattle.synth.specs.Levels.{single, levelIn}
-use Rattle.synth.specs.Channel.{View, withQueue, withLast, ids, held, is, isBusy}
+use Rattle.synth.specs.Settings.{Name, settings, fieldOf, withSlot, settingIn, settingField, named, newest}
+use Rattle.synth.specs.Channel.{View, kind, withQueue, withLast, withEdition, ids, held, is, isBusy}
 use Rattle.synth.specs.Request.{Request, acting}
 use Rattle.synth.specs.Judgement.{Verdict, passes, fails, success, early, late}
 use Rattle.synth.specs.declared.State.{State}
 use Rattle.synth.specs.declared.State.the-variants.{Idle, Speaking, Paused, Recognizing, Recognized}
 use Rattle.synth.specs.declared.Method.{Method}
 use Rattle.synth.specs.declared.Entry.{Entry}
+use Rattle.synth.specs.declared.Level.{Level}
+use Rattle.synth.specs.declared.Setting.{Setting}
+use Rattle.synth.specs.declared.Edition.{Edition}
 use Rattle.synth.specs.declared.LastId.the-variants.{Seen}
 
 -- what is to be said, and the channel afterwards
@@ -38,26 +43,44 @@ abbrev pub succeeded : View → Request → RequestState → List ℕ → State 
 succeeded v r progress listed state queue =
     record { says = response (v .name) (r .id) (success r) progress listed ∷ []; next = withQueue state queue v }
 
--- `true` where the field did not come
-abbrev pub killable : Option (List ℕ) → Bool
-killable none = true
-killable (some v) = alike v (bytes "true")
+-- the setting of the moment, `true` where it is unset
+abbrev pub killSet : Setting → Bool
+killSet Setting.Unset = true
+killSet (Setting.Flag b) = b
+killSet (Setting.Millis n) = true
+killSet (Setting.Level l) = true
 
-abbrev pub orZero : Option ℕ → ℕ
+-- that where the field did not come
+abbrev pub killable : Setting → Option (List ℕ) → Bool
+killable x none = killSet x
+killable x (some v) = alike v (bytes "true")
+
+abbrev pub orZero : Option Level → ℕ
 orZero none = 0
-orZero (some bits) = bits
+orZero (some l) = l .millionths
 
--- 0 where the field did not come, which has the bits 0
-abbrev pub thresholdIn : Option (List ℕ) → ℕ
-thresholdIn none = 0
-thresholdIn (some v) = orZero (levelIn v)
+-- the setting of the moment, 0 where it is unset
+abbrev pub levelSet : Setting → ℕ
+levelSet Setting.Unset = 0
+levelSet (Setting.Flag b) = 0
+levelSet (Setting.Millis n) = 0
+levelSet (Setting.Level l) = l .millionths
 
--- what is kept of an outstanding SPEAK or RECOGNIZE
-abbrev pub entryOf : Request → Entry
-entryOf r = record { id = r .id; kill = killable (acting KillOnBargeIn r); threshold = thresholdIn (acting ConfidenceThreshold r) }
+-- that where the field did not come
+abbrev pub thresholdIn : Setting → Option (List ℕ) → ℕ
+thresholdIn x none = levelSet x
+thresholdIn x (some v) = orZero (levelIn v)
+
+-- what is kept of an outstanding SPEAK or RECOGNIZE, accepted while these are the settings
+abbrev pub entryOf : Edition → Request → Entry
+entryOf now r = record {
+  id = r .id;
+  kill = killable (now .kill) (acting KillOnBargeIn r);
+  threshold = thresholdIn (now .confidence) (acting ConfidenceThreshold r);
+}
 
 abbrev pub joined : View → Request → List Entry
-joined v r = v .queue ++ entryOf r ∷ []
+joined v r = v .queue ++ entryOf (newest (v .editions)) r ∷ []
 
 -- SPEAK and RECOGNIZE: none is outstanding, becomes active, and speaking or recognizing, IN-PROGRESS; otherwise joins the end, PENDING
 abbrev pub enter : State → View → Request → Outcome
@@ -114,6 +137,30 @@ control v r = succeeded v r Complete (active (v .queue)) (v .state) (v .queue)
 abbrev pub startTimers : View → Request → Outcome
 startTimers v r = succeeded v r Complete [] (v .state) (v .queue)
 
+-- a value given sets the setting
+abbrev pub setBy : Name → Option (List ℕ) → Edition → Edition
+setBy n none e = e
+setBy n (some v) e = withSlot n (settingIn n v) e
+
+abbrev pub changed : List Name → Request → Edition → Edition
+changed [] r e = e
+changed (n ∷ ns) r e = changed ns r (setBy n (acting (fieldOf n) r) e)
+
+-- SET-PARAMS: a further edition, what it does not name as before
+abbrev pub setParams : View → Request → Outcome
+setParams v r = record {
+  says = response (v .name) (r .id) (success r) Complete [] ∷ [];
+  next = withEdition (changed (settings (kind v)) r (newest (v .editions))) v;
+}
+
+-- the settings that the request names, or all of the kind's
+abbrev pub toldBy : View → Request → List (Field (List ℕ))
+toldBy v r = map (settingField (newest (v .editions))) (named (namesOf (fieldsIn (r .fields))) (settings (kind v)))
+
+-- GET-PARAMS: no change; the settings named, or all, are told
+abbrev pub getParams : View → Request → Outcome
+getParams v r = record { says = telling (v .name) (r .id) (success r) (toldBy v r) ∷ []; next = v }
+
 -- a request that passed every judgement
 unfoldable pub act : Method → View → Request → Outcome
 act Method.Speak v r = enter Speaking v r
@@ -125,6 +172,8 @@ act Method.BargeInOccurred v r = bargeIn (v .queue) v r
 act Method.Unknown v r = failed v r 401
 act Method.Recognize v r = enter Recognizing v r
 act Method.StartInputTimers v r = startTimers v r
+act Method.SetParams v r = setParams v r
+act Method.GetParams v r = getParams v r
 
 abbrev pub afterLate : Verdict → View → Request → Outcome
 afterLate passes v r = act (r .method) v r

@@ -9,7 +9,7 @@ pub enum State {
     Recognized,
 }
 
-// The methods of document 01 and of K1; every other name is unknown.
+// The methods of document 01, of K1 and of K5; every other name is unknown.
 pub enum Method {
     Speak,
     Stop,
@@ -20,10 +20,12 @@ pub enum Method {
     Unknown,
     Recognize,
     StartInputTimers,
+    SetParams,
+    GetParams,
 }
 
-// An outstanding request: its request-id, whether barge-in kills it, and the threshold of its score, by the bits of the
-// single-precision number: any bits that C hands in come back as they were.
+// An outstanding request: its request-id, whether barge-in kills it, and the threshold of its score, in millionths: the
+// single-precision number is that of a level, and is worked out where the score is compared with it.
 pub struct Entry {
     pub id: u32,
     pub kill: bool,

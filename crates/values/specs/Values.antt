@@ -1,17 +1,20 @@
 -- What the value of a field says, in the terms of the judgement.
 use Prim.Native.Nat.{ℕ}
-use mathlib.Core.Bool.{true, false, not, _&&_}
+use mathlib.Core.Bool.{Bool, true, false, not, _&&_}
 use mathlib.Core.Option.{Option, none, some}
 use mathlib.Core.List.{List}
 use lib.Dec.{eqb}
 use Rattle.octets.specs.Octets.{bytes, alike}
 use Rattle.message.specs.Message.{part}
 use Rattle.message.specs.Folds.{joined}
+use Rattle.synth.specs.Levels.{levelIn}
 use Rattle.synth.specs.Judgement as J
 use Rattle.synth.specs.Judgement.{passes, fails, _then_, unless, given, anything, isTypeOf}
+use Rattle.synth.specs.declared.Level.{Level}
 use Rattle.synth.specs.declared.Method.{Method}
 use Rattle.values.specs.declared.Given.{Given}
 use Rattle.values.specs.declared.Kill.{Kill}
+use Rattle.values.specs.declared.Threshold.{Threshold}
 use Rattle.values.specs.declared.Verdict.{Verdict}
 
 -- a value in the frame f as it is judged, where it is given
@@ -19,13 +22,22 @@ abbrev pub givenOf : List ℕ → Given → Option (List ℕ)
 givenOf f Given.Nothing = none
 givenOf f (Given.At p) = some (joined (part f p))
 
--- Kill-On-Barge-In defaults to true; it is `true` or `false` in any case
-abbrev pub killOf : Option (List ℕ) → Kill
-killOf none = Kill.Of true
-killOf (some v) = elim (alike v (bytes "true")) [
+-- Kill-On-Barge-In is `true` or `false` in any case; where it is not given, as it is set
+abbrev pub killOf : Bool → Option (List ℕ) → Kill
+killOf otherwise none = Kill.Of otherwise
+killOf otherwise (some v) = elim (alike v (bytes "true")) [
   | true ↦ Kill.Of true
   | false ↦ elim (alike v (bytes "false")) [ true ↦ Kill.Of false | false ↦ Kill.Illegal ]
 ]
+
+abbrev pub millionthsIn : Option Level → Threshold
+millionthsIn none = Threshold.Illegal
+millionthsIn (some l) = Threshold.Of (l .millionths)
+
+-- Confidence-Threshold is a level; where it is not given, as it is set
+abbrev pub thresholdOf : ℕ → Option (List ℕ) → Threshold
+thresholdOf otherwise none = Threshold.Of otherwise
+thresholdOf otherwise (some v) = millionthsIn (levelIn v)
 
 -- a verdict as the judgement has it: the paper's number of its status
 abbrev pub verdictOf : Verdict → J.Verdict

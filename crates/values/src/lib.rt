@@ -1,11 +1,12 @@
 // What the value of a field that acts in a request says: document 01, "Fields", and judgements 6 and 9, and
-// document 02, K1.
+// document 02, K1 and K5.
 ghost use mathlib.Core.Path.{_≡_};
+ghost use mathlib.Core.Bool.{true};
 ghost use mathlib.Core.Option.{some};
+ghost use Rattle.synth.specs.Levels.{levelIn};
 ghost use Rattle.synth.specs.Request.{isSpeak};
 ghost use Rattle.synth.specs.Judgement.{isSpeechType, isGrammarType, isTypeOf};
-ghost use Rattle.levels.specs.Thresholds.{thresholdOf};
-ghost use Rattle.values.specs.Values.{givenOf, killOf, verdictOf, typedContent, contentBy};
+ghost use Rattle.values.specs.Values.{givenOf, killOf, millionthsIn, thresholdOf, verdictOf, typedContent, contentBy};
 ghost use Rattle.values.specs.Steps.{meets, givenBy};
 
 // The value of a field that acts in the request's method: its place in the frame, where the field came.
@@ -18,6 +19,12 @@ pub enum Given {
 pub enum Kill {
     Illegal,
     Of(bool),
+}
+
+// What Confidence-Threshold says: a level in millionths, or none.
+pub enum Threshold {
+    Illegal,
+    Of(u32),
 }
 
 // A judgement passes, or fails with a status.
@@ -44,8 +51,8 @@ pub fn given_at(mask: u16, b: u16, p: message::Span) -> Given
 }
 
 // What the value of Kill-On-Barge-In says.
-fn flag(v: &[u8]) -> Kill
-    ensures { λ r. ⌜ r ≡ killOf (some (now (v .entry))) ⌝ }
+pub fn flag(v: &[u8]) -> Kill
+    ensures { λ r. ⌜ r ≡ killOf true (some (now (v .entry))) ⌝ }
 {
     if octets::alike(v, b"true") {
         return Kill::Of(true);
@@ -56,23 +63,34 @@ fn flag(v: &[u8]) -> Kill
     Kill::Illegal
 }
 
-// Kill-On-Barge-In is true where it is not given.
-pub fn kill_of(f: &[u8], g: Given) -> Kill
-    ensures { λ r. ⌜ r ≡ killOf (givenOf (now (f .entry)) g) ⌝ }
+// Kill-On-Barge-In, or what it is set to where it is not given.
+pub fn kill_of(f: &[u8], g: Given, otherwise: bool) -> Kill
+    ensures { λ r. ⌜ r ≡ killOf otherwise (givenOf (now (f .entry)) g) ⌝ }
 {
     match g {
-        Given::Nothing => Kill::Of(true),
+        Given::Nothing => Kill::Of(otherwise),
         Given::At(p) => flag(message::part(f, p)),
     }
 }
 
-// Confidence-Threshold as a level: 0 where it is not given.
-pub fn level(f: &[u8], g: Given) -> levels::Threshold
-    ensures { λ r. ⌜ r ≡ thresholdOf (givenOf (now (f .entry)) g) ⌝ }
+// The millionths of the level that `v` writes.
+fn millionths(v: &[u8]) -> Threshold
+    ensures { λ r. ⌜ r ≡ millionthsIn (levelIn (now (v .entry))) ⌝ }
+{
+    let found = levels::level_in(v);
+    match found {
+        levels::Found::Illegal => Threshold::Illegal,
+        levels::Found::Of(l) => Threshold::Of(l.millionths),
+    }
+}
+
+// Confidence-Threshold, or what it is set to where it is not given.
+pub fn threshold_of(f: &[u8], g: Given, otherwise: u32) -> Threshold
+    ensures { λ r. ⌜ r ≡ thresholdOf otherwise (givenOf (now (f .entry)) g) ⌝ }
 {
     match g {
-        Given::Nothing => levels::Threshold::Of(0),
-        Given::At(p) => levels::level_in(message::part(f, p)),
+        Given::Nothing => Threshold::Of(otherwise),
+        Given::At(p) => millionths(message::part(f, p)),
     }
 }
 
@@ -112,6 +130,8 @@ fn is_speak(m: synth::Method) -> bool
         synth::Method::Unknown => false,
         synth::Method::Recognize => false,
         synth::Method::StartInputTimers => false,
+        synth::Method::SetParams => false,
+        synth::Method::GetParams => false,
     }
 }
 

@@ -4,7 +4,7 @@ use std::io::{self, Write};
 
 use super::unsound::Given;
 use crate::kept::{self, Kept};
-use crate::script::{command, put_hex, put_words, Command};
+use crate::script::{command, editions_word, put_hex, put_words, Command};
 use crate::writing::{Answer, Event};
 
 #[derive(Default)]
@@ -90,8 +90,20 @@ impl Batch {
         self.end(false);
     }
 
+    pub fn back(&mut self, number: u32) {
+        let words = format!("back {number}");
+        self.text.extend_from_slice(words.as_bytes());
+        self.end(true);
+    }
+
+    pub fn settings(&mut self) {
+        self.text.extend_from_slice(b"settings");
+        self.end(false);
+    }
+
     /// A `channel` line, with the count as a further word where it is not that
-    /// of the entries listed, and a `number` line for each that this leaves.
+    /// of the entries listed, a `settings` line where editions are listed, and
+    /// a `number` line for each that these leave.
     pub fn channel(&mut self, given: &Given) {
         let begin = self.text.len();
         let Kept(numbers) = given.kept;
@@ -102,10 +114,13 @@ impl Batch {
             let count = format!(" {}", numbers[kept::COUNT]);
             self.text.extend_from_slice(count.as_bytes());
         }
-        let Ok(Some(Command::Channel(set))) = command(&self.text[begin..]) else {
+        let Ok(Some(Command::Channel(mut set))) = command(&self.text[begin..]) else {
             unreachable!("the line is one of the language");
         };
         self.end(false);
+        if let Some(listed) = given.editions {
+            self.given_settings(&given.kept, listed, &mut set);
+        }
         for (place, (number, set)) in numbers.iter().zip(set.0).enumerate() {
             if *number != set {
                 let words = format!("number {place} {number}");
@@ -113,6 +128,24 @@ impl Batch {
                 self.end(false);
             }
         }
+    }
+
+    /// A `settings` line that lists so many editions; what it makes of the numbers set.
+    fn given_settings(&mut self, kept: &Kept, listed: usize, set: &mut Kept) {
+        let begin = self.text.len();
+        let editions = editions_word(&kept.editions(listed));
+        self.text
+            .extend_from_slice(format!("settings {editions}").as_bytes());
+        let count = kept.0[kept::KEPT];
+        if count != listed as u64 {
+            self.text.extend_from_slice(format!(" {count}").as_bytes());
+        }
+        let Ok(Some(Command::SetSettings { editions, count })) = command(&self.text[begin..])
+        else {
+            unreachable!("the line is one of the language");
+        };
+        set.put_editions(&editions, count);
+        self.end(false);
     }
 
     fn hex(&mut self, bytes: &[u8]) {

@@ -3,6 +3,8 @@
 //! The maker plays along on a channel of its own, so that it knows the state,
 //! the ids that are held and the exact size of each answer.
 
+pub mod settings;
+
 use super::batch::Batch;
 use super::damage::stated_length;
 use super::draft::{methods, other_method};
@@ -177,7 +179,7 @@ impl<'a> Conversation<'a> {
         self.kept = given.kept;
         self.batch.channel(&given);
         self.show();
-        // Thresholds that no reading gives are there only now.
+        // Each of its thresholds is some level's.
         if self.kind == Kind::Recognizer && self.random.chance(60) {
             self.report();
         }
@@ -436,7 +438,7 @@ impl<'a> Conversation<'a> {
             return None;
         }
         let active = self.channel.queue.outstanding().first();
-        let threshold = active.map_or(0, |held| held.threshold.0);
+        let threshold = active.map_or(0, |held| held.threshold.bits());
         Some(match self.random.weighted(&[40, 8, 8, 8, 10, 8, 6, 8]) {
             0 => self.random.pick(&[1.000_001f32, 1.5, 2.0, 1e9]).to_bits(),
             1 => threshold,

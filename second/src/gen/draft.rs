@@ -130,7 +130,7 @@ fn lines(bytes: &[u8]) -> Vec<&[u8]> {
     lines
 }
 
-/// The methods of a kind. The first brings a body.
+/// The methods of a kind, but those about settings. The first brings a body.
 pub fn methods(kind: Kind) -> &'static [&'static str] {
     match kind {
         Kind::Synthesizer => &SPEECH_METHODS,
@@ -161,9 +161,12 @@ const SPEECH_METHODS: [&str; 6] = [
     "BARGE-IN-OCCURRED",
 ];
 
+/// Of both kinds.
+pub const SETTINGS_METHODS: [&str; 2] = ["SET-PARAMS", "GET-PARAMS"];
+
 const UNKNOWN_METHODS: [&str; 15] = [
-    "SET-PARAMS",
-    "GET-PARAMS",
+    "SET-PARAM",
+    "GET-PARAMSX",
     "DEFINE-LEXICON",
     "DEFINE-GRAMMAR",
     "INTERPRET",
@@ -209,13 +212,16 @@ const BODIES: [&[u8]; 6] = [
 ];
 
 /// Field lines of every sort, all well formed; values that judgement may dislike.
-pub const SOME_FIELDS: [&[u8]; 19] = [
+pub const SOME_FIELDS: [&[u8]; 22] = [
     b"Kill-On-Barge-In:true",
     b"Kill-On-Barge-In: FALSE",
     b"kill-on-barge-in:perhaps",
     b"Confidence-Threshold:0.5",
     b"CONFIDENCE-threshold: 2 ",
     b"Cancel-If-Queue:true",
+    b"Fetch-Timeout:2500",
+    b"no-input-TIMEOUT: 5000",
+    b"Sensitivity-Level:0.75",
     b"Active-Request-Id-List:1,2,3",
     b"ACTIVE-REQUEST-ID-LIST: 1, 2 ",
     b"Proxy-Sync-Id:987654321",
@@ -262,12 +268,13 @@ pub fn field_name(field: &[u8]) -> &[u8] {
 fn start_line(random: &mut Random) -> Vec<u8> {
     let id = id(random);
     let state = random.pick(&STATES);
-    let line = match random.weighted(&[35, 15, 10, 20, 20]) {
+    let line = match random.weighted(&[35, 15, 10, 20, 20, 10]) {
         0 => format!("{} {id}", random.pick(&SPEECH_METHODS)),
         1 => format!("{} {id}", random.pick(&RECOGNITION_METHODS)),
         2 => format!("{} {id}", random.pick(&UNKNOWN_METHODS)),
         3 => format!("{id} {:03} {state}", status(random)),
-        _ => format!("{} {id} {state}", event(random)),
+        4 => format!("{} {id} {state}", event(random)),
+        _ => format!("{} {id}", random.pick(&SETTINGS_METHODS)),
     };
     line.into_bytes()
 }
@@ -283,7 +290,9 @@ fn id(random: &mut Random) -> String {
 fn status(random: &mut Random) -> usize {
     match random.below(4) {
         0 => random.below(1000),
-        _ => random.pick(&[200, 201, 401, 402, 404, 405, 406, 407, 408, 409, 410, 502]),
+        _ => random.pick(&[
+            200, 201, 401, 402, 403, 404, 405, 406, 407, 408, 409, 410, 502,
+        ]),
     }
 }
 
@@ -294,6 +303,7 @@ fn event(random: &mut Random) -> &'static str {
         "SPEECH-MARKER",
         "E",
         "START-OF-INPUT",
+        "SET-PARAMS",
     ])
 }
 

@@ -1,9 +1,10 @@
 //! Requests on a channel: good ones, and ones that fail a chosen judgement.
 
 use super::damage::{content_length, empty_line, malformed_line};
-use super::draft::{body, methods, other_method, Draft};
+use super::draft::{body, methods, other_method, Draft, SETTINGS_METHODS};
 use super::random::Random;
 use crate::channel::{Channel, Kind};
+use crate::settings::{Setting, Sort};
 
 /// A request in the making.
 pub struct Request {
@@ -78,6 +79,40 @@ const WRONG_LEVELS: [&str; 26] = [
     "nan",
     "0.-1",
 ];
+const MILLIS: [&str; 14] = [
+    "0",
+    "1",
+    "7",
+    "007",
+    "5000",
+    "\t2500 ",
+    "4294967295",
+    "4294967296",
+    "9223372036854775808",
+    "1000000000000000000",
+    "9999999999999999999",
+    "0000000000000000000",
+    "0000000000000000001",
+    "9999999999999999998",
+];
+const WRONG_MILLIS: [&str; 16] = [
+    "",
+    "-1",
+    "+5",
+    "5ms",
+    "0x10",
+    "1.5",
+    "1e3",
+    "1 0",
+    "5,000",
+    "true",
+    ".",
+    "10000000000000000000",
+    "18446744073709551615",
+    "18446744073709551616",
+    "99999999999999999999",
+    "00000000000000000001",
+];
 const KILLS: [&str; 6] = ["true", "false", "TRUE", "False", " false ", "\ttRuE"];
 const WRONG_KILLS: [&str; 7] = ["", "yes", "0", "tru", "truee", "false true", "true,false"];
 const WRONG_LISTS: [&str; 14] = [
@@ -124,6 +159,8 @@ impl Request {
         match method {
             "SPEAK" => request.prompt(random),
             "RECOGNIZE" => request.grammar(random),
+            "SET-PARAMS" => request.settings(random, channel.kind()),
+            "GET-PARAMS" => request.names(random, channel.kind()),
             "STOP" if random.chance(50) => {
                 let list = list(random, channel);
                 request.set("Active-Request-Id-List", &list);
@@ -163,6 +200,36 @@ impl Request {
         self.set("Content-Type", random.pick(types).as_bytes());
     }
 
+    /// Any of the kind's settings, mostly some, with legal values.
+    fn settings(&mut self, random: &mut Random, kind: Kind) {
+        let share = random.pick(&[0, 40, 40, 60, 100]);
+        for setting in kind.settings() {
+            if random.chance(share) {
+                let value = value(random, setting.sort);
+                self.set(&name(setting), value.as_bytes());
+            }
+        }
+    }
+
+    /// Any of the kind's settings, mostly without a value; none is judged.
+    fn names(&mut self, random: &mut Random, kind: Kind) {
+        let share = random.pick(&[0, 40, 60, 100]);
+        for setting in kind.settings() {
+            if random.chance(share) {
+                let value = match random.below(4) {
+                    0 => value(random, setting.sort),
+                    1 => wrong_value(random, setting.sort),
+                    _ => String::new(),
+                };
+                self.set(&name(setting), value.as_bytes());
+            }
+        }
+    }
+
+    fn is_about_settings(&self) -> bool {
+        SETTINGS_METHODS.contains(&self.method.as_str())
+    }
+
     fn brings_body(&self) -> bool {
         ["SPEAK", "RECOGNIZE"].contains(&self.method.as_str())
     }
@@ -175,7 +242,7 @@ impl Request {
         if random.chance(10) {
             self.set("Logging-Tag", b"");
         }
-        if random.chance(8) {
+        if random.chance(8) && !self.is_about_settings() {
             self.add_ignored(random);
         }
         if random.chance(5) {
@@ -196,7 +263,7 @@ impl Request {
         self.fields.push((name.to_string(), value.to_vec()));
     }
 
-    fn remove(&mut self, name: &str) {
+    pub fn remove(&mut self, name: &str) {
         self.fields.retain(|(other, _)| other != name);
     }
 
@@ -319,6 +386,38 @@ fn may_be_402(kind: Kind) -> &'static [&'static str] {
         Kind::Synthesizer => &["PAUSE", "RESUME", "CONTROL"],
         Kind::Recognizer => &["START-INPUT-TIMERS"],
     }
+}
+
+/// The name of a setting as the paper spells it.
+pub fn name(setting: &Setting) -> String {
+    String::from_utf8_lossy(setting.field.spelling()).into_owned()
+}
+
+/// A legal value of the sort.
+pub fn value(random: &mut Random, sort: Sort) -> String {
+    match sort {
+        Sort::Flag => random.pick(&KILLS).to_string(),
+        Sort::Millis => millis(random),
+        Sort::Level => level(random),
+    }
+}
+
+/// An illegal value of the sort.
+pub fn wrong_value(random: &mut Random, sort: Sort) -> String {
+    match sort {
+        Sort::Flag => random.pick(&WRONG_KILLS).to_string(),
+        Sort::Millis => random.pick(&WRONG_MILLIS).to_string(),
+        Sort::Level => random.pick(&WRONG_LEVELS).to_string(),
+    }
+}
+
+/// Legal milliseconds: 1 to 19 digits, leading zeros among them.
+fn millis(random: &mut Random) -> String {
+    if random.chance(50) {
+        return random.pick(&MILLIS).to_string();
+    }
+    let count = random.between(1, 19);
+    String::from_utf8_lossy(&random.letters(b"0123456789", count)).into_owned()
 }
 
 /// A legal level, in any number of digits.

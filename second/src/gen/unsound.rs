@@ -4,6 +4,7 @@ use super::random::Random;
 use crate::channel::{Channel, Held, Kind, Name, State, LONGEST_NAME};
 use crate::kept::{self, Kept};
 use crate::level::Level;
+use crate::script::level_number;
 
 const ALNUM: &[u8] = b"0123456789ABCDEFGHIJKLMNOPQRSTUVWXYZabcdefghijklmnopqrstuvwxyz";
 
@@ -69,14 +70,17 @@ pub struct Given {
     pub name: Vec<u8>,
     /// How many queue entries its line lists.
     pub entries: usize,
+    /// How many editions a `settings` line lists; none where they are fresh.
+    pub editions: Option<usize>,
 }
 
 impl Given {
-    fn of(kept: Kept) -> Given {
+    pub fn of(kept: Kept) -> Given {
         Given {
             kept,
             name: kept.name_bytes(),
             entries: kept.shown_count(),
+            editions: None,
         }
     }
 }
@@ -132,20 +136,17 @@ fn held(random: &mut Random, kind: Kind, id: u32) -> Held {
             ..Held::by_default(id)
         },
         Kind::Recognizer => Held {
-            threshold: Level(bits(random)),
+            threshold: level(random),
             ..Held::by_default(id)
         },
     }
 }
 
-/// Those of levels, mostly; also of numbers that no level is, and of no number.
-fn bits(random: &mut Random) -> u32 {
-    match random.weighted(&[10, 50, 20, 20]) {
-        0 => 0,
-        1 => (random.below(1_000_001) as f32 / 1e6).to_bits(),
-        2 => random.next() as u32,
-        _ => random.pick(&ODD_BITS),
-    }
+/// Any level, the lowest and the highest ones more often.
+pub fn level(random: &mut Random) -> Level {
+    let any = random.below(1_000_001);
+    let millionths = random.pick(&[0, 1, 500_000, 999_999, 1_000_000, any, any, any, any]);
+    Level::of_millionths(millionths as u64).unwrap_or_default()
 }
 
 /// Zeros, the smallest, around 1, the largest, infinities, and no numbers.
@@ -194,7 +195,7 @@ pub fn given(random: &mut Random, channel: &Channel) -> Given {
             *number = random.next() >> random.pick(&[0, 30, 31]);
         }
     }
-    for number in &mut numbers[kept::NAME + size..] {
+    for number in &mut numbers[kept::NAME + size..kept::KEPT] {
         if random.chance(10) {
             *number = random.next() >> random.pick(&[0, 31, 56]);
         }
@@ -224,9 +225,7 @@ pub fn broken(random: &mut Random, channel: &Channel) -> Given {
         8 => none_seen(random, &mut kept),
         9 => break_number(random, &mut kept, kept::QUEUE, (1 << 33) - 1),
         10 => break_number(random, &mut kept, kept::NAME, 255),
-        11 if channel.kind() == Kind::Recognizer => {
-            break_number(random, &mut kept, kept::THRESHOLDS, (1 << 32) - 1)
-        }
+        11 if channel.kind() == Kind::Recognizer => break_threshold(random, &mut kept),
         12 => other_kind(random, &mut kept),
         11 | 13 => kept.0[kept::SIZE] = broken_size(random, kept.0[kept::SIZE]),
         _ => return long_name(random, kept),
@@ -234,8 +233,30 @@ pub fn broken(random: &mut Random, channel: &Channel) -> Given {
     Given::of(kept)
 }
 
+/// One of the thresholds in use is one that no reading gives.
+pub fn break_threshold(random: &mut Random, kept: &mut Kept) {
+    let used = kept.shown_count();
+    if used > 0 {
+        let place = kept::THRESHOLDS + random.below(used);
+        kept.0[place] = no_level(random, kept.0[place]);
+    }
+}
+
+/// Above one million, or bits that no level has: of other numbers, and next to a level's own.
+pub fn no_level(random: &mut Random, right: u64) -> u64 {
+    let bits = level(random).bits();
+    let wrong = match random.below(5) {
+        0 | 1 => return above(random, 1_000_000, right),
+        2 => random.pick(&ODD_BITS),
+        3 => random.pick(&[bits.wrapping_add(1), bits.wrapping_sub(1), bits | 1 << 31]),
+        _ => random.next() as u32,
+    };
+    // A few of them are a level's after all.
+    level_number(wrong)
+}
+
 /// Above `most`: next to it, far off, or such that it looks right when cut to fewer bits.
-fn above(random: &mut Random, most: usize, right: u64) -> u64 {
+pub fn above(random: &mut Random, most: usize, right: u64) -> u64 {
     let most = most as u64;
     let bits = [8, 16, 32, 33, 63].map(|bits| right + (1 << bits));
     match random.weighted(&[2, 1, 1, 4]) {

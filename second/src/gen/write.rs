@@ -4,9 +4,11 @@ use super::batch::Batch;
 use super::random::Random;
 use crate::channel::Kind;
 use crate::start_line::RequestState;
-use crate::writing::{Answer, Event, Ids, Outgoing};
+use crate::writing::{Answer, Event, Ids, Outgoing, NOTHING_TOLD};
 
-const STATUSES: [u16; 12] = [200, 201, 401, 402, 404, 405, 406, 407, 408, 409, 410, 502];
+const STATUSES: [u16; 13] = [
+    200, 201, 401, 402, 403, 404, 405, 406, 407, 408, 409, 410, 502,
+];
 
 const STATES: [RequestState; 3] = [
     RequestState::Pending,
@@ -45,6 +47,7 @@ pub fn writes(batch: &mut Batch, random: &mut Random, turn: usize) {
         status: STATUSES[number % STATUSES.len()],
         state: STATES[number / STATUSES.len() % STATES.len()],
         list,
+        told: NOTHING_TOLD,
     };
     let most = Outgoing::Answer(answer).size(&name) + 2;
     (0..=most).for_each(|room| batch.respond(&answer, &name, room));

@@ -14,16 +14,18 @@ use Rattle.octets.specs.Octets.{isValue, isBlank}
 use native.Mathlib.Nat.{le-trans}
 use Rattle.message.specs.StartLines.{isMethodName}
 use Rattle.message.specs.Fields.{trimEnd}
-use Rattle.message.specs.Known.{knownOf, valueOf}
-use Rattle.message.specs.declared.Known.the-variants.{ActiveRequestIdList}
+use Rattle.message.specs.Message.{Field}
+use Rattle.message.specs.Known.{knownOf, onceEach, namesOf, valueOf}
+use Rattle.message.specs.declared.Known.the-variants.{ContentLength, ActiveRequestIdList}
 use Rattle.message.specs.declared.RequestState.{RequestState}
 use Rattle.answer.specs.IdList.{idListText}
-use Rattle.answer.specs.Answers.{eventName, completionCause, response, complete}
+use Rattle.answer.specs.Written.{fieldsText}
+use Rattle.answer.specs.Answers.{channelIdentifier, eventName, completionCause, response, telling, complete}
 use Rattle.answer.specs.declared.Kind.{Kind}
-use Rattle.answer.specs.Writable.{Writable}
+use Rattle.answer.specs.Writable.{FieldFits, Writable}
 use Rattle.answer.proofs.Values.{ValueFits, cause-most, CauseFits}
 use Rattle.answer.proofs.Answers.{field-fits, name-fits, list-fits, list-few, list-once, cause-once, list-bare, cause-bare}
-use Rattle.answer.proofs.Sizes.{state-most, list-most, response-size, event-most, complete-size}
+use Rattle.answer.proofs.Sizes.{state-most, list-most, response-size, telling-size, event-most, complete-size}
 
 -- what of a channel's name matters to writing
 pub record NameFits (name : List ℕ) : Type 0 where
@@ -46,6 +48,26 @@ response-writable name id status state ids n i s l a = record {
   once = list-once name ids;
   length-agrees = rw (list-bare name ids);
   fits = omega (arith, response-size name id status state ids (n .most) i (list-most ids l a), state-most state, list-most ids l a);
+}
+
+-- what of the fields that an answer tells matters to writing
+pub record Told (name : List ℕ) (fs : List (Field (List ℕ))) : Type 0 where
+  pub few : length fs ≤ 31
+  pub fields : All FieldFits fs
+  pub once : onceEach true (namesOf (channelIdentifier name ∷ fs)) ≡ true
+  pub bare : valueOf ContentLength (channelIdentifier name ∷ fs) ≡ none
+  pub short : length (fieldsText fs) ≤ 200
+
+pub telling-writable : (name : List ℕ) (id status : ℕ) (fs : List (Field (List ℕ))) → NameFits name → id < 4294967296
+    → status < 1000 → Told name fs → Writable (telling name id status fs)
+unfolding telling
+telling-writable name id status fs n i s t = record {
+  start = (i, s);
+  few = omega (arith, t .few);
+  fields = (name-fits name (value-fits name n), t .fields);
+  once = t .once;
+  length-agrees = rw (t .bare);
+  fits = omega (arith, telling-size name id status fs (n .most) i (t .short), t .short);
 }
 
 event-named : (kind : Kind) → isMethodName (eventName kind) ≡ true

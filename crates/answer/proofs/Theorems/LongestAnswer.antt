@@ -12,16 +12,17 @@ use Rattle.lists.specs.Lists.{All}
 use Rattle.octets.specs.Octets.{bytes}
 use Rattle.writers.specs.Decimal.{digits, digitsWithin, threeDigits}
 use Rattle.writers.specs.SelfLength.{selfLength}
+use Rattle.message.specs.Message.{Field}
 use Rattle.message.specs.declared.RequestState.{RequestState}
 use Rattle.message.specs.declared.RequestState.the-variants.{Complete}
 use Rattle.answer.specs.Written.{startText, fieldText, fieldsText, afterLength, written}
 use Rattle.answer.specs.IdList.{behindCommas, idListText}
-use Rattle.answer.specs.Answers.{eventName, response, complete}
+use Rattle.answer.specs.Answers.{eventName, response, telling, complete}
 use Rattle.answer.specs.declared.Kind.{Kind}
 use native.Mathlib.Nat.{le-trans}
 use Rattle.answer.proofs.Values.{causeMost, cause-most, CauseFits}
-use Rattle.answer.proofs.Sizes.{state-most, list-most, response-size, event-most, complete-size}
-use Rattle.answer.proofs.Theorems.AnswersWritable.{NameFits}
+use Rattle.answer.proofs.Sizes.{state-most, list-most, response-size, telling-size, event-most, complete-size}
+use Rattle.answer.proofs.Theorems.AnswersWritable.{NameFits, Told}
 
 -- COMPLETE, with a list or without
 pub longest-complete : (name : List ℕ) (id status : ℕ) (ids : List ℕ) → NameFits name → id < 4294967296 → length ids ≤ 16
@@ -34,6 +35,12 @@ pub longest-bare : (name : List ℕ) (id status : ℕ) (state : RequestState) �
     → length (written (response name id status state [])) ≤ 305
 unfolding fieldsText
 longest-bare name id status state n i = omega (arith, response-size name id status state [] (n .most) i (lit≤ tt), state-most state)
+
+-- fields told
+pub longest-telling : (name : List ℕ) (id status : ℕ) (fs : List (Field (List ℕ))) → NameFits name → id < 4294967296
+    → Told name fs → length (written (telling name id status fs)) ≤ 305
+longest-telling name id status fs n i t =
+    omega (arith, telling-size name id status fs (n .most) i (t .short), t .short)
 
 -- an event: 159 bytes on a synthesizer, 172 on a recognizer
 pub longest-event : (kind : Kind) (name : List ℕ) (id cause : ℕ) → NameFits name → id < 4294967296

@@ -1,100 +1,64 @@
--- `channel::is_sound` takes the conjuncts of soundness in the paper's order. Assumes nothing.
-use Prim.Native.Nat.{_≤_}
-use mathlib.Core.Path.{_≡_, refl, sym, ap, _∙_}
-use mathlib.Core.Bool.{Bool, true, false, not, _&&_, Bool·beq}
-use lib.Dec.{leb}
-use lib.ListN.{length}
-use borrow.Author.Tests.{le-leb, not-true, not-false}
-use Rattle.lists.specs.Lists.{isEmpty, ascends}
+-- `channel::is_sound` asks for the shape, and then for the editions. Assumes nothing.
+use mathlib.Core.Path.{_≡_, refl, sym, ap, ap₂, _∙_}
+use mathlib.Core.Bool.{Bool, true, false, _&&_, and-false}
+use borrow.Author.Tests.{not-true, not-false}
+use Rattle.lists.proofs.Tests.{both}
 use Rattle.answer.specs.declared.Kind.{Kind}
-use Rattle.synth.specs.Kinds.{kindOf, most, isStateOf}
-use Rattle.synth.specs.Channel.{wellNamed, isBusy, firstAbove, ids, sound}
-use Rattle.queue.specs.Queue.{listOf}
-use Rattle.channelnames.specs.Names.{nameOf}
+use Rattle.synth.specs.Kinds.{kindOf}
+use Rattle.synth.specs.Channel.{View, kind, wellNamed, shaped, areEditions, areLevels, sound}
+use Rattle.queue.proofs.Queues.{all-levels}
+use Rattle.channelnames.specs.Names.{nameOf, kindBy}
 use Rattle.channelnames.proofs.Tails.{named-kind}
+use Rattle.settings.specs.Kept.{editionsOf}
+use Rattle.channel.specs.Channel.{view}
 use borrow.Author.Needs.{needs}
 use Rattle.channel.proofs.is_sound.Statement.{statement}
 use Rattle.channel.proofs.is_sound.Tie as tie
 
--- a conjunct that holds
-and-last : (a b : Bool) {d : Bool} → d ≡ true → (a && b && d) ≡ (a && b)
-and-last true true e = e
-and-last true false e = refl
-and-last false b e = refl
+-- what soundness comes to, where the thresholds are levels
+unshaped : (v : View) → shaped v ≡ false → false ≡ sound v
+unfolding sound
+unshaped v e = rw e
 
-named : (c : tie.Else1) → wellNamed (nameOf (c .before .before .before .args .c .name)) ≡ true
-named c = sym (c .before .is-well-named .ensures) ∙ not-false _ (c .if1 .left)
+by-editions : (v : View) → shaped v ≡ true → areLevels (v .queue) ≡ true → areEditions (kind v) (v .editions) ≡ sound v
+unfolding sound
+by-editions v e l = rw (e, l) (sym (and-true (areEditions (kind v) (v .editions))))
+  where
+    and-true : (b : Bool) → (b && true) ≡ b
+    and-true true = refl
+    and-true false = refl
 
-kind-is : (c : tie.After-kind-by) → kindOf (nameOf (c .before .before .before .before .args .c .name)) ≡ c .kind-by .result
-kind-is c = named-kind _ (named (c .before)) ∙ sym (c .kind-by .ensures)
+-- a channel of that shape has a well-formed name
+shape-named : (v : View) → shaped v ≡ true → wellNamed (v .name) ≡ true
+unfolding shaped
+shape-named v e =
+    both _ _ (both _ _ (both _ _ (both _ _ (both _ _ (both _ _ e .0) .0) .0) .0) .0) .0
 
--- the tests of the state
-fitted : (c : tie.After-fits2) → let ch = c .before .before .before .before .before .before .before .args .c in
-    isStateOf (kindOf (nameOf (ch .name))) (ch .state) && Bool·beq (isBusy (ch .state)) (not (isEmpty (listOf (ch .queue)))) ≡ c .fits2 .result
-fitted c = rw (kind-is (c .before .before .before), ← c .before .is-empty .ensures) (sym (c .fits2 .ensures))
-
-is-well-named-requires : tie.Need-is-well-named-requires
-is-well-named-requires c κs = search needs
+is-shaped-requires : tie.Need-is-shaped-requires
+is-shaped-requires c κs = search needs
 
 returns : tie.Need-returns
-unfolding sound
-returns c = rw (sym (c .before .is-well-named .ensures) ∙ not-true _ (c .if1 .taken))
+returns c =
+    let a = c .before .before .before .before .args in
+    let v = view (a .last) (a .c) in
+    unshaped v (sym (c .before .is-shaped .ensures (v .editions)) ∙ not-true _ (c .if1 .taken))
 
 kind-by-requires : tie.Need-kind-by-requires
 kind-by-requires c κs = search needs
 
-is-empty-requires : tie.Need-is-empty-requires
-is-empty-requires c κs = search needs
-
-fits-requires : tie.Need-fits-requires
-fits-requires c κs = search needs
+are-editions-requires : tie.Need-are-editions-requires
+are-editions-requires c κs = search needs
 
 returns-2 : tie.Need-returns-2
-unfolding sound
-returns-2 c = rw (named (c .before .before .before .before .before), fitted (c .before) ∙ not-true _ (c .if2 .taken))
-
-idle-unseen-requires : tie.Need-idle-unseen-requires
-idle-unseen-requires c κs = search needs
-
-returns-3 : tie.Need-returns-3
-unfolding sound
-returns-3 c =
-    let else2 = c .before .before in
-    rw (named (else2 .before .before .before .before .before), fitted (else2 .before) ∙ not-false _ (else2 .if2 .left), sym (c .before .idle-unseen .ensures) ∙ not-true _ (c .if3 .taken))
-
-first-above-requires : tie.Need-first-above-requires
-first-above-requires c κs = search needs
-
-is-rising-requires : tie.Need-is-rising-requires
-is-rising-requires c κs = search needs
-
-returns-4 : tie.Need-returns-4
-unfolding sound
-returns-4 c =
-    let else3 = c .before .before in
-    let else2 = else3 .before .before in
-    let told = else2 .before .before .before .before in
-    let at = told .before .before .before .before in
-    let above = c .before .first-above .ensures in
-    let in-range : firstAbove (at .args .last) ≤ 4294967296 = rw (← above .0) (above .1) in
-    let q = at .args .c .queue in
-    let last = at .args .last in
-    let kind : Kind = kindOf (nameOf (at .args .c .name)) in
-    rw (named (told .before), fitted (else2 .before) ∙ not-false _ (else2 .if2 .left), sym (else3 .before .idle-unseen .ensures) ∙ not-false _ (else3 .if3 .left))
-    (c .is-rising .ensures ∙ rw (above .0, ← kind-is told) (sym (and-last (leb (length (listOf q)) (most kind)) (ascends 0 (ids (listOf q)) (firstAbove last)) (le-leb (firstAbove last) 4294967296 in-range))))
+returns-2 c =
+    let a = c .before .before .before .before .before .before .before .args in
+    let v = view (a .last) (a .c) in
+    let shape = sym (c .before .before .before .before .is-shaped .ensures (v .editions)) ∙ not-false _ (c .before .before .before .if1 .left) in
+    c .are-editions .ensures
+    ∙ ap (λ k. areEditions k (v .editions)) (c .before .kind-by .ensures ∙ sym (named-kind _ (shape-named v shape)))
+    ∙ by-editions v shape (all-levels (a .c .queue))
 
 pub is-sound-spec : {M : Type 1} → statement M
 is-sound-spec =
     tie.close
-    (tie.spec
-    is-well-named-requires
-    returns
-    kind-by-requires
-    is-empty-requires
-    fits-requires
-    returns-2
-    idle-unseen-requires
-    returns-3
-    first-above-requires
-    is-rising-requires
-    returns-4)
+    (tie.spec is-shaped-requires returns kind-by-requires are-editions-requires returns-2)

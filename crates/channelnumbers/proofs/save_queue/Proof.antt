@@ -6,7 +6,7 @@ use native.Mathlib.Omega.{arith}
 use lib.ListN.{length}
 use Rattle.queue.proofs.Queues.{numbers-16}
 use Rattle.channelnumbers.specs.Steps.{Stored, stored}
-use Rattle.channelnumbers.proofs.Saving.{stored-none, entry-more}
+use Rattle.channelnumbers.proofs.Saving.{stored-none, number-more}
 use borrow.Author.Needs.{needs}
 use Rattle.channelnumbers.proofs.save_queue.Statement.{statement}
 use Rattle.channelnumbers.proofs.save_queue.Tie as tie
@@ -46,7 +46,7 @@ loop-less c = search needs
 loop-again : tie.Need-loop-again Inv-loop μ-loop
 loop-again c =
     let inv = c .before .loop .inv in
-    (omega arith, inv .1, inv .2, entry-more (c .before .before .before .args .q .numbers) (inv .2) (omega arith) (inv .3))
+    (omega arith, inv .1, inv .2, number-more stored (c .before .before .before .args .q .numbers) (inv .2) (omega arith) (omega arith) (inv .3))
 
 returns : tie.Need-returns Inv-loop μ-loop
 returns c =

@@ -2,17 +2,19 @@
 -- is what is left of the count. Assumes nothing.
 use Prim.Native.Nat.{_-_, _≤_}
 use mathlib.Core.Path.{_≡_, _∙_}
+use mathlib.Core.List.{map}
 use native.Mathlib.Omega.{arith}
 use lib.ListN.{length}
+use Rattle.queue.specs.Queue.{levelIn}
 use Rattle.queue.proofs.Queues.{levels-16}
 use Rattle.channelnumbers.specs.Steps.{Stored}
-use Rattle.channelnumbers.proofs.Saving.{stored-none, threshold-more, thresholds-16}
+use Rattle.channelnumbers.proofs.Saving.{stored-none, number-more, thresholds-16}
 use borrow.Author.Needs.{needs}
 use Rattle.channelnumbers.proofs.save_thresholds.Statement.{statement}
 use Rattle.channelnumbers.proofs.save_thresholds.Tie as tie
 
 abbrev Inv-loop : tie.InvT-loop
-Inv-loop ws₀ count thresholds i₀ ws i = (i ≤ count) × (count ≤ 16) × (length thresholds ≡ 16) × Stored ws₀ 12 thresholds i ws
+Inv-loop ws₀ count thresholds i₀ ws i = (i ≤ count) × (count ≤ 16) × (length thresholds ≡ 16) × Stored ws₀ 12 (map levelIn thresholds) i ws
 
 abbrev μ-loop : tie.MeasureT-loop
 μ-loop ws₀ count thresholds i₀ ws i = count - i
@@ -28,7 +30,7 @@ loop-holds c =
       omega arith,
       rw kept (thresholds-16 (a .kind) (a .q .count) (search needs)),
       levels-16 (a .q) _ (at .good .1 .0),
-      stored-none (a .ws .now) 12 (a .q .thresholds) (search needs),
+      stored-none (a .ws .now) 12 (map levelIn (a .q .thresholds)) (search needs),
     )
 
 mul-ws : tie.Need-mul-ws Inv-loop μ-loop
@@ -58,7 +60,7 @@ loop-less c = search needs
 loop-again : tie.Need-loop-again Inv-loop μ-loop
 loop-again c =
     let inv = c .before .loop .inv in
-    (omega arith, inv .1, inv .2, threshold-more (inv .2) (omega arith) (inv .3))
+    (omega arith, inv .1, inv .2, number-more levelIn (c .before .before .before .before .args .q .thresholds) (inv .2) (omega arith) (omega arith) (inv .3))
 
 returns : tie.Need-returns Inv-loop μ-loop
 returns c =

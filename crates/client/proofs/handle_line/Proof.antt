@@ -2,13 +2,21 @@
 use mathlib.Core.Path.{sym, ap, subst}
 use Prim.Native.Nat.{_<_}
 use lib.ListN.{length}
-use Rattle.message.specs.Message.{InRange}
+use mathlib.Core.List.{List}
+use Rattle.message.specs.Message.{InRange, request, part, onFields}
+use Rattle.message.specs.Reading.{asksParams, fieldsFrom}
+use Rattle.synth.specs.Kinds.{methodIn}
+use Rattle.synth.specs.Channel.{View, kind}
+use Rattle.synth.specs.Request.{methodOf}
+use Rattle.synth.specs.States as S
+use Rattle.outcomes.specs.Outcomes.{asked}
+use Rattle.judgement.specs.Judged.{Judges}
 use Rattle.startline.specs.StartLine.{startOf}
 use Rattle.startline.specs.declared.Start.{Start}
 use Rattle.channel.specs.Channel.{view}
-use Rattle.synth.proofs.Channels.{sound-facts}
-use Rattle.calls.proofs.Leaving.{queue-short, turned, leaves-refused}
+use Rattle.calls.proofs.Leaving.{turned, leaves-refused}
 use Rattle.client.specs.Turns.{lineTurn}
+use Rattle.client.proofs.Messages.{on-channel}
 use borrow.Author.Needs.{needs}
 use Rattle.client.proofs.handle_line.Statement.{statement}
 use Rattle.client.proofs.handle_line.Tie as tie
@@ -16,20 +24,34 @@ use Rattle.client.proofs.handle_line.Tie as tie
 enum-known-start : tie.Need-enum-known-start
 enum-known-start c = search needs
 
+present-requires : tie.Need-present-requires
+present-requires c κs = search needs
+
 cast-judge : tie.Need-cast-judge
 cast-judge c =
-    let at = c .before .before .before .before .before in
-    let small : c .before .start .given .0 .1 .0 < 4294967296 = subst (λ (x : Start). InRange (startOf x)) (c .before .start .given .1) (at .pre .1) in
+    let at = c .before .before .before .before .before .before in
+    let small : c .before .before .start .given .0 .1 .0 < 4294967296 = subst (λ (x : Start). InRange (startOf x)) (c .before .before .start .given .1) (at .pre .1) in
     search needs
+
+-- the request, on a channel
+abbrev Comes : (c : tie.After-judge) → View → Type 0
+Comes c v =
+    let a = c .before .before .before .before .before .before .before .args in
+    let f = a .f .now in
+    let given = c .before .before .before .start .given .0 in
+    Judges v (c .judge .result) (S.judge v (asked (a .major) (a .minor) (methodIn (kind v) (methodOf (part f (given .0)))) (given .1 .0)
+    (onFields (part f) (fieldsFrom (asksParams f (request (given .0) (given .1 .0))) f (a .at)))))
+
+comes : (c : tie.After-judge) → let a = c .before .before .before .before .before .before .before .args in Comes c (view (a .last) (a .c))
+comes c =
+    let at = c .before .before .before .before .before .before .before in
+    on-channel (at .args .last) (at .args .c) _ (Comes c) (c .before .present .ensures) (at .pre .0) (c .judge .ensures)
 
 judge-requires : tie.Need-judge-requires
 judge-requires c κs = search needs
 
 deliver-requires : tie.Need-deliver-requires
-deliver-requires c κs =
-    let at = c .before .before .before .before .before .before .before in
-    let v = view (at .args .last) (at .args .c) in
-    (at .pre .0, c .before .judge .ensures (sound-facts v (at .pre .0) .named) (queue-short v (at .pre .0)) .few)
+deliver-requires c κs = let at = c .before .before .before .before .before .before .before .before in (at .pre .0, comes (c .before) .few)
 
 enum-told : tie.Need-enum-told
 enum-told c = search needs
@@ -48,12 +70,9 @@ same-length c = search needs
 
 returns : tie.Need-returns
 returns c =
-    let a = c .before .before .before .before .before .before .before .before .before .before .args in
+    let a = c .before .before .before .before .before .before .before .before .before .before .before .args in
     let turn = lineTurn (view (a .last) (a .c)) (length (a .out .now)) (a .f .now) (a .major) (a .minor) (a .at) in
-    let at = c .before .before .before .before .before .before .before .before .before .before in
-    let v = view (a .last) (a .c) in
-    turned (ap turn (sym (c .before .before .before .before .before .before .start .given .1)))
-    (c .before .before .deliver .ensures _ (c .before .before .before .before .judge .ensures (sound-facts v (at .pre .0) .named) (queue-short v (at .pre .0))))
+    turned (ap turn (sym (c .before .before .before .before .before .before .before .start .given .1))) (c .before .before .deliver .ensures _ (comes (c .before .before .before .before)))
 
 returns-2 : tie.Need-returns-2
 returns-2 c =
@@ -72,6 +91,7 @@ handle-line-spec =
     tie.close
     (tie.spec
     enum-known-start
+    present-requires
     cast-judge
     judge-requires
     deliver-requires

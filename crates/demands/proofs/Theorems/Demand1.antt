@@ -1,6 +1,7 @@
--- DEMAND 1 OF THE CODE. Every call of `handle` and `report`, on any channel, with any input or cause and any output, is answered as the table of
--- refusals says. Where a line is due, the first such line's number and count come back with the very channel, and no byte is written; where none is,
--- 0, the stated length, and the exact answer at the front of the output, its rest as it was. A sound channel stays sound. Assumes nothing.
+-- DEMAND 1 OF THE CODE. Every call of `handle`, `report` and `go_back`, on any channel, with any input, cause or
+-- edition's number and any output, is answered as the table of refusals says. Where a line is due, the first such
+-- line's number and count come back with the very channel, and no byte is written; where none is, 0, the stated length,
+-- and the exact answer at the front of the output, its rest as it was. A sound channel stays sound. Assumes nothing.
 use Prim.Native.Nat.{ℕ}
 use mathlib.Core.Path.{_≡_, sym, ap, _∙_}
 use mathlib.Core.Bool.{false≢true}

@@ -1,5 +1,6 @@
--- DEMAND 1 OF THE C FACE. Every call of the seven functions, on any 64 numbers, with any input or cause and any output,
--- returns and leaves what the table of refusals says; a refusal leaves all but the counts as it was. Assumes nothing.
+-- DEMAND 1 OF THE C FACE. Every call of the eight functions, on any 89 numbers, with any input, cause or edition's
+-- number and any output, returns and leaves what the table of refusals says; a refusal leaves all but the counts as it
+-- was. Assumes nothing.
 use Prim.Native.Nat.{ℕ}
 use mathlib.Core.Path.{_≡_, refl, sym, ap, _∙_}
 use mathlib.Core.Bool.{Bool, true, false, false≢true}
@@ -11,9 +12,9 @@ use lib.ListN.{length, take}
 use Rattle.framing.specs.Framing.{framing, frameLength}
 use Rattle.framing.specs.declared.Framing.{Framing}
 use Rattle.framing.specs.declared.Framing.the-variants.{More, NoMessage, TooLong, TooShort, Frame}
-use Rattle.message.specs.Message.{Start, Head, Reading, refused, message}
+use Rattle.message.specs.Message.{Start, Fields, Head, Reading, refused, message}
 use Rattle.message.specs.StartLines.{Started, started, startLine}
-use Rattle.message.specs.Reading.{fieldsFrom, readFrom, readFramed, reading}
+use Rattle.message.specs.Reading.{readFrom, readFramed, reading}
 use Rattle.message.specs.declared.Span.{Span}
 use Rattle.whose.specs.Whose.{whose, whoseFace}
 use Rattle.whose.specs.declared.Whose.{Whose}
@@ -21,12 +22,14 @@ use Rattle.whose.specs.declared.Whose.the-variants as W
 use Rattle.messagenumbers.specs.Layout.{messageNumbers}
 use Rattle.firmware.specs.Face.{framed, frameFace, ReadFace, consuming, readAs, readFace, called}
 use Rattle.synth.specs.Channel.{View, wellNamed, sound, held}
-use Rattle.synth.specs.Calls.{input, report, openChannel}
+use Rattle.synth.specs.Calls.{input, report, back, openChannel}
 use Rattle.channelnumbers.specs.Numbers.{numbersOf, viewOf}
-use Rattle.klarvesimo.specs.Face.{openFace, HeldFace, fitting, heldOn, heldFace, counted, reported, listed}
+use Rattle.klarvesimo.specs.Face.{openFace, HeldFace, fitting, heldOn, heldFace}
+use Rattle.klarvesimo.specs.Face.{counted, reported, gone, backFace, listed}
 use Rattle.demands.specs.Demands.{Line, given, table, firstDue, outcome, exact, stated}
-use Rattle.demands.specs.FromC.{FromC, opens, frames, reads, asks, on, handles, reports, lists, Places, returned}
-use Rattle.demands.specs.FromC.{refusals, seenAs, channelIn, frameNumbers, numbersIn, idNumbers, atFront, byLine, Demand1OfTheFace}
+use Rattle.demands.specs.FromC.{FromC, opens, frames, reads, asks, on, handles, reports, goes, lists}
+use Rattle.demands.specs.FromC.{Places, returned, refusals, seenAs, channelIn, frameNumbers, numbersIn, idNumbers}
+use Rattle.demands.specs.FromC.{atFront, byLine, Demand1OfTheFace}
 use Rattle.demands.proofs.Faces.{handed-long, handed-fits, one-place, two-places, nameless}
 use Rattle.demands.proofs.Faces.{lineFace, call-by-table}
 
@@ -89,9 +92,9 @@ module _ (s out consumed : List ℕ) (place : length consumed ≡ 1) where
     head = record { stated = n; major = a; minor = b }
 
     module _ (st : Start Span) (at : ℕ) (g : startLine k (take n s) ≡ started st at)
-        (e : reading s ≡ message head st (fieldsFrom (take n s) at)) where
+        (fs : Fields Span) (e : reading s ≡ message head st fs) where
       abbrev numbers : List ℕ
-      numbers = messageNumbers (take n s) head st (fieldsFrom (take n s) at)
+      numbers = messageNumbers (take n s) head st fs
 
       message-fits : (c : Bool) → ltb (length out) (length numbers) ≡ c → Tabled (reads s out consumed)
       unfolding readFace refusals
@@ -111,7 +114,7 @@ module _ (s out consumed : List ℕ) (place : length consumed ≡ 1) where
         → Tabled (reads s out consumed)
     unfolding refusals
     by-start Started.malformed g e = refused-as 5 n (rw (f, g, refusals)) e
-    by-start (started st at) g e = message-fits st at g e _ refl
+    by-start (started st at) g e = message-fits st at g _ e _ refl
 
   read-framed : (x : Framing) → framing s ≡ x → reading s ≡ readFramed s x → Tabled (reads s out consumed)
   unfolding refusals
@@ -138,7 +141,7 @@ module _ (s id : List ℕ) (place : length id ≡ 1) where
       (rw (e, whoseFace) (λ j. record { number = 0; id = one-place id i place j })
       ∙ ap (λ (w : Whose). record { number = 0; id = idNumbers w }) (sym e))
 
--- handling and reporting, by the line that is due
+-- handling, reporting and going back, by the line that is due
 module _ (ws out : List ℕ) where
   handled : (s counts : List ℕ) → length counts ≡ 2 → (o : Option Line)
       → counted counts (lineFace o (channelIn ws) ws (input s) out) ≡ byLine o (on ws (handles s out counts))
@@ -165,6 +168,15 @@ module _ (ws out : List ℕ) where
         written = one-place written (length (exact v (report cause score))) one i;
         out = atFront (exact v (report cause score)) out;
       }
+
+gone-by : (ws : List ℕ) (n : ℕ) (o : Option Line)
+    → gone (lineFace o (channelIn ws) ws (back n) []) ≡ byLine o (on ws (goes n))
+gone-by ws n (some l) = refl
+gone-by ws n none = refl
+
+gone-tabled : (ws : List ℕ) (n : ℕ) → Tabled (on ws (goes n))
+unfolding backFace refusals
+gone-tabled ws n = ap gone (call-by-table ws (back n) []) ∙ gone-by ws n (firstDue (table (channelIn ws) (back n) 0))
 
 -- listing, by whether the channel is sound and its ids fit
 module _ (ws ids count : List ℕ) (place : length count ≡ 1) where
@@ -215,6 +227,7 @@ demand1-of-the-face (on ws (handles s out counts)) p =
 demand1-of-the-face (on ws (reports cause score out written)) p =
     ap (reported written) (call-by-table ws (report cause score) out)
     ∙ (unfold refusals in reported-by ws out cause score written p (firstDue (table (channelIn ws) (report cause score) (length out))))
+demand1-of-the-face (on ws (goes n)) p = gone-tabled ws n
 demand1-of-the-face (on ws (lists ids count)) p = listed-on ws ids count p (viewOf ws) refl _ refl
 
 -- the same where it is known which line is the first that is due, or that none is

@@ -1,5 +1,6 @@
--- DEMAND 3 OF THE CODE. For every list of calls of `handle` and `report` on a channel as `open_channel` returned it, each with the clause that
--- its contract states, the ledger is in balance: the theorem of crate `synth`, at the contracts' own clauses. Assumes nothing.
+-- DEMAND 3 OF THE CODE. For every list of calls of `handle`, `report` and `go_back` on a channel as `open_channel`
+-- returned it, each with the clause that its contract states, the ledger is in balance: the theorem of crate `synth`,
+-- at the contracts' own clauses. Assumes nothing.
 use mathlib.Core.Path.{_≡_, sym, ap, _∙_}
 use mathlib.Core.List.{List}
 use Prim.Native.Nat.{ℕ}

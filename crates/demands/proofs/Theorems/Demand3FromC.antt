@@ -1,6 +1,6 @@
--- DEMAND 3 OF THE C FACE. The calls of `klarvesimo_handle` and `klarvesimo_report`, on the 64 numbers that
--- `klarvesimo_open` gave and each call then left, keep the ledger in balance: the contracts of the C face name these
--- numbers whole, and what a call saves the next one loads. Assumes nothing.
+-- DEMAND 3 OF THE C FACE. The calls of `klarvesimo_handle`, `klarvesimo_report` and `klarvesimo_back`, on the 89
+-- numbers that `klarvesimo_open` gave and each call then left, keep the ledger in balance: the contracts of the C face
+-- name these numbers whole, and what a call saves the next one loads. Assumes nothing.
 use Prim.Native.Nat.{ℕ, zero, suc}
 use mathlib.Core.Path.{_≡_, refl, sym, ap, _∙_}
 use mathlib.Core.Bool.{Bool, true, false}
@@ -12,7 +12,7 @@ use lib.Seq.{take-append-seam}
 use Rattle.lists.proofs.Tests.{choose}
 use Rattle.ledger.specs.Ledger.{Exchange, Run, ended, called, Turn}
 use Rattle.synth.specs.Channel.{View, fresh, wellNamed, sound}
-use Rattle.synth.specs.Calls.{Lent, input, report, Call, Reply, Opened, refuse, call, openChannel}
+use Rattle.synth.specs.Calls.{Lent, input, report, back, Call, Reply, Opened, refuse, call, openChannel}
 use Rattle.synth.specs.Demand3.{Meets}
 use Rattle.synth.proofs.Channels.{sound-facts}
 use Rattle.synth.proofs.Theorems.Demand3.{demand3}
@@ -22,10 +22,11 @@ use Rattle.calls.proofs.Leaving.{name-short, unsound-refused}
 use Rattle.channelnumbers.specs.Numbers.{numbersOf, viewOf}
 use Rattle.channelnumbers.proofs.Theorems.LoadSaved.{sound-few, load-saved, loaded-fit}
 use Rattle.channelnumbers.proofs.Theorems.ThresholdsFit.{call-fit, fresh-fit}
-use Rattle.klarvesimo.specs.Face.{openFace, CallFace, keeping, turnFace, callOn, callFace}
-use Rattle.demands.specs.FromC.{on, handing, Places, seenAs, channelIn, seen, stepped, CalledFromC}
+use Rattle.klarvesimo.specs.Face.{openFace, CallFace, keeping, turnFace, callOn, callFace, backFace}
+use Rattle.demands.specs.FromC.{on, handing, Lending, Places, seenAs, channelIn, seen, stepped, CalledFromC}
 use Rattle.demands.specs.FromC.{Demand3OfTheFace}
 use Rattle.demands.proofs.Faces.{nameless, one-place, two-places, report-consumes-none}
+use Rattle.demands.proofs.Faces.{back-consumes-none, back-writes-none}
 
 -- what is seen of a call before the counts are in their places
 abbrev pub replyOf : CallFace → Reply
@@ -103,23 +104,34 @@ face-meets ws out lent = go (viewOf ws) refl
     go (some v) e = meets-channel v ws out lent e
 
 -- the counts stand in their places
-seen-reply : (ws out counts : List ℕ) (lent : Lent) → Places (on ws (handing lent out counts))
+seen-reply : (ws out counts : List ℕ) (lent : Lent) → Lending lent out → Places (on ws (handing lent out counts))
     → seen ws lent out counts ≡ replyOf (callFace ws lent out)
-seen-reply ws out counts (input s) two =
+unfolding backFace
+seen-reply ws out counts (input s) any two =
     let f = callFace ws (input s) out in
     ap (λ (l : List ℕ). record { number = f .number; consumed = getD l 0 0; written = take (getD l 1 0) (f .out) })
     (two-places counts (f .consumed) (f .written) two)
-seen-reply ws out written (report cause score) one =
+seen-reply ws out written (report cause score) any one =
     let f = callFace ws (report cause score) out in
     ap (λ (l : List ℕ). record { number = f .number; consumed = 0; written = take (getD l 0 0) (f .out) })
     (one-place written (f .written) one)
     ∙ ap (λ (m : ℕ). record { number = f .number; consumed = m; written = take (f .written) (f .out) })
     (sym (report-consumes-none ws cause score out))
+seen-reply ws out counts (back n) nil any =
+    let f = callFace ws (back n) [] in
+    (λ i. record {
+      number = f .number;
+      consumed = sym (back-consumes-none ws n []) i;
+      written = take (sym (back-writes-none ws n []) i) (f .out);
+    })
+    ∙ ap (λ (out : List ℕ). replyOf (callFace ws (back n) out)) (sym nil)
 
-left-channel : (ws out counts : List ℕ) (lent : Lent)
+left-channel : (ws out counts : List ℕ) (lent : Lent) → Lending lent out
     → stepped ws (handing lent out counts) .next ≡ callFace ws lent out .channel
-left-channel ws out counts (input s) = refl
-left-channel ws out counts (report cause score) = refl
+unfolding backFace
+left-channel ws out counts (input s) any = refl
+left-channel ws out counts (report cause score) any = refl
+left-channel ws out counts (back n) nil = ap (λ (out : List ℕ). callFace ws (back n) out .channel) (sym nil)
 
 pub meets : {ws : List ℕ} {k : Call} {r : Reply} {next : List ℕ} → CalledFromC ws k r next → Meets channelIn ws k r next
 meets {ws} {k} {r} {next} c =
@@ -127,10 +139,10 @@ meets {ws} {k} {r} {next} c =
     let as-made : (n : ℕ) → Call = λ n. record { lent = k .lent; room = n } in
     record {
       replies =
-          c .saw ∙ seen-reply ws (c .out) (c .counts) (k .lent) (c .places) ∙ m .replies
+          c .saw ∙ seen-reply ws (c .out) (c .counts) (k .lent) (c .lends) (c .places) ∙ m .replies
           ∙ ap (λ (n : ℕ). call (channelIn ws) (as-made n) .reply) (sym (c .room));
       leaves =
-          ap channelIn (c .left ∙ left-channel ws (c .out) (c .counts) (k .lent)) ∙ m .leaves
+          ap channelIn (c .left ∙ left-channel ws (c .out) (c .counts) (k .lent) (c .lends)) ∙ m .leaves
           ∙ ap (λ (n : ℕ). call (channelIn ws) (as-made n) .next) (sym (c .room));
     }
 

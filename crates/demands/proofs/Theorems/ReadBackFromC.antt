@@ -18,7 +18,7 @@ use Rattle.answer.proofs.Theorems.ListsReadBack.{all-back}
 use Rattle.synth.specs.Channel.{View, kind, sound}
 use Rattle.synth.specs.Request.{methodOf, requestOf}
 use Rattle.ledger.specs.Ledger.{Turn}
-use Rattle.synth.specs.Calls.{Lent, input, report, Call, Reply, isNoCause, call}
+use Rattle.synth.specs.Calls.{Lent, input, report, back, Call, Reply, isNoCause, call}
 use Rattle.synth.specs.declared.Entry.{Entry}
 use Rattle.synth.proofs.Channels.{Facts, sound-facts}
 use Rattle.synth.proofs.Methods.{judge-good}
@@ -50,6 +50,7 @@ module _ (v : View) (room : ℕ) where
   unfolding table
   damaged (input s) b = rw (b, table) tt
   damaged (report cause score) b = rw (b, table) tt
+  damaged (back n) b = rw (b, table) tt
 
   sane : (lent : Lent) → firstDue (table v lent room) ≡ none → sound v ≡ true
   sane lent e = go (sound v) refl
@@ -73,6 +74,7 @@ module _ (v : View) (room : ℕ) where
   writable : (lent : Lent) → firstDue (table v lent room) ≡ none → All Writable (outcome v lent .says)
   writable (input s) e = answer-writable v (sound-facts v (sane (input s) e)) s (readBytes s) refl
   writable (report cause score) e = events-writable v (sound-facts v (sane (report cause score) e)) cause score (a-cause cause score e) (v .queue) refl
+  writable (back n) e = tt
 
 -- what the definition of a call gives, by the line that is due
 by-line : (v : View) (k : Call) (o : Option Line) → firstDue (table v (k .lent) (k .room)) ≡ o

@@ -1,5 +1,6 @@
--- A channel opened with number 0 stays sound through every list of calls of `handle` and `report`, and none of them is refused with 21. Every
--- beginning of such a list is one itself, so each channel on the way is sound too. Assumes nothing.
+-- A channel opened with number 0 stays sound through every list of calls of `handle`, `report` and `go_back`, and none
+-- of them is refused with 21. Every beginning of such a list is one itself, so each channel on the way is sound too.
+-- Assumes nothing.
 use Prim.Native.Nat.{ℕ}
 use mathlib.Core.Path.{_≡_, sym, ap, _∙_}
 use mathlib.Core.Bool.{true, false≢true}

@@ -1,7 +1,7 @@
 -- SOUNDNESS OF THE C FACE. The numbers of a channel that `klarvesimo_open` opened stay those of a sound channel through
--- every list of calls of `klarvesimo_handle`, `klarvesimo_report` and `klarvesimo_held`, with any arrays, and none of
--- them returns 21. Every beginning of such a list is one itself, so the numbers on the way are sound too. Assumes
--- nothing.
+-- every list of calls of `klarvesimo_handle`, `klarvesimo_report`, `klarvesimo_back` and `klarvesimo_held`, with any
+-- arrays, and none of them returns 21. Every beginning of such a list is one itself, so the numbers on the way are
+-- sound too. Assumes nothing.
 use Prim.Native.Nat.{ℕ}
 use mathlib.Core.Path.{_≡_, sym, ap, _∙_}
 use mathlib.Core.Bool.{true, false≢true}
@@ -14,11 +14,12 @@ use Rattle.lists.specs.Lists.{All}
 use Rattle.lists.proofs.Tests.{choose}
 use Rattle.ledger.specs.Ledger.{Exchange, Turn, after, trace}
 use Rattle.synth.specs.Channel.{View, held, sound}
-use Rattle.synth.specs.Calls.{Lent, input, report, Call, Reply}
+use Rattle.synth.specs.Calls.{Lent, input, report, back, Call, Reply}
 use Rattle.synth.proofs.Theorems.Soundness.{opened-sound, call-sound}
 use Rattle.channelnumbers.specs.Numbers.{viewOf}
-use Rattle.klarvesimo.specs.Face.{openFace, callFace, HeldFace, heldOn, heldFace}
-use Rattle.demands.specs.FromC.{OnChannel, handles, reports, lists, seenAs, channelIn, stepped, SoundOfTheFace}
+use Rattle.klarvesimo.specs.Face.{openFace, callFace, backFace, HeldFace, heldOn, heldFace}
+use Rattle.demands.specs.FromC.{OnChannel, handles, reports, goes, lists, seenAs, channelIn, stepped}
+use Rattle.demands.specs.FromC.{SoundOfTheFace}
 use Rattle.demands.proofs.Faces.{nameless}
 use Rattle.demands.proofs.Theorems.Soundness.{not-21}
 use Rattle.demands.proofs.Theorems.Demand3FromC.{face-meets, opened-numbers}
@@ -45,9 +46,10 @@ list-stays (some v) ids e n =
     (λ f z. false≢true (sym f ∙ e)) n
 
 stays : (ws : List ℕ) (c : OnChannel) → sound (channelIn ws) ≡ true → Stays (stepped ws c)
-unfolding heldFace
+unfolding backFace heldFace
 stays ws (handles s out counts) e = call-stays ws out (input s) e
 stays ws (reports cause score out written) e = call-stays ws out (report cause score) e
+stays ws (goes n) e = call-stays ws [] (back n) e
 stays ws (lists ids count) e = (e, list-stays (viewOf ws) ids e)
 
 all-stay : (calls : List OnChannel) (ws : List ℕ) → sound (channelIn ws) ≡ true

@@ -1,11 +1,13 @@
 -- `engine::complete` goes by the kind. Assumes nothing.
-use mathlib.Core.Path.{sym, ap, _∙_}
+use Prim.Native.Nat.{_≤_}
+use mathlib.Core.Path.{sym, ap, subst, _∙_}
 use lib.ListN.{length}
 use Rattle.answer.specs.declared.Kind.{Kind}
 use Rattle.synth.specs.Calls.{deliver}
 use Rattle.synth.specs.States.{counted, recognized, completed}
 use Rattle.synth.specs.declared.Entry.{Entry}
 use Rattle.queue.specs.Queue.{first}
+use Rattle.queue.proofs.Queues.{first-level}
 use Rattle.channel.specs.Channel.{view}
 use Rattle.calls.proofs.Leaving.{turned}
 use borrow.Author.Needs.{needs}
@@ -52,7 +54,8 @@ returns-2 c =
     let v = view (a .last) (a .c) in
     let of = c .before .before .before .before .before .before .enum-told2 .given .1 in
     let active = c .before .before .before .before .before .active .ensures ∙ ap first q in
-    let counts = c .before .before .before .before .counted .ensures ∙ ap (λ (x : Entry). counted (x .threshold) (a .cause) (a .score)) active in
+    let few = subst (λ (x : Entry). x .threshold ≤ 1000000) (sym (c .before .before .before .before .before .active .ensures)) (first-level (a .c .queue)) in
+    let counts = c .before .before .before .before .counted .ensures few ∙ ap (λ (x : Entry). counted (x .threshold) (a .cause) (a .score)) active in
     turned (ap (λ n. deliver v 0 (length (a .out .now)) (recognized e queue v n)) counts
     ∙ ap (λ (k : Kind). deliver v 0 (length (a .out .now)) (completed k e queue v (a .cause) (a .score))) (sym of))
     (c .before .before .end-recognized .ensures e queue q)

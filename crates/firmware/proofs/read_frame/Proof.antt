@@ -16,6 +16,9 @@ enum-known-line c = search needs
 start-numbers-requires : tie.Need-start-numbers-requires
 start-numbers-requires c κs = search needs
 
+asks-params-requires : tie.Need-asks-params-requires
+asks-params-requires c κs = search needs
+
 hand-over-requires : tie.Need-hand-over-requires
 hand-over-requires c κs = search needs
 
@@ -29,8 +32,10 @@ same-length c = search needs
 
 returns-2 : tie.Need-returns-2
 returns-2 c =
-    let a = c .before .before .before .before .before .before .before .before .before .before .before .before .args in
-    read-line (a .f .now) (a .k) (a .major) (a .minor) (a .out .now) _ (c .before .before .before .before .before .before .before .before .before .start-line .ensures) _ _ (c .before .before .before .before .before .before .before .line .given .1) _ (c .before .before .before .before .before .start-numbers .ensures) _ _
+    let d = c .before .before .before .before .before in
+    let a = d .before .before .before .before .before .before .before .before .args in
+    read-line (a .f .now) (a .k) (a .major) (a .minor) (a .out .now) _ (d .before .before .before .before .before .start-line .ensures) _ _
+    (d .before .before .before .line .given .1) _ (d .before .start-numbers .ensures) _ (d .asks-params .ensures) _ _
     (c .before .before .before .hand-over .ensures) (c .if1 .taken)
 
 same-length-2 : tie.Need-same-length-2
@@ -38,8 +43,10 @@ same-length-2 c = search needs
 
 returns-3 : tie.Need-returns-3
 returns-3 c =
-    let a = c .before .before .before .before .before .before .before .before .before .before .before .before .args in
-    short-line (a .f .now) (a .k) (a .major) (a .minor) (a .out .now) _ (c .before .before .before .before .before .before .before .before .before .start-line .ensures) _ _ (c .before .before .before .before .before .before .before .line .given .1) _ (c .before .before .before .before .before .start-numbers .ensures) _ _
+    let d = c .before .before .before .before .before in
+    let a = d .before .before .before .before .before .before .before .before .args in
+    short-line (a .f .now) (a .k) (a .major) (a .minor) (a .out .now) _ (d .before .before .before .before .before .start-line .ensures) _ _
+    (d .before .before .before .line .given .1) _ (d .before .start-numbers .ensures) _ (d .asks-params .ensures) _ _
     (c .before .before .before .hand-over .ensures) (c .if1 .left)
 
 pub read-frame-spec : {M : Type 1} → statement M
@@ -50,6 +57,7 @@ read-frame-spec =
     enum-told
     enum-known-line
     start-numbers-requires
+    asks-params-requires
     hand-over-requires
     returns
     same-length

@@ -35,21 +35,21 @@ returns : tie.Need-returns
 returns c =
     let a = c .before .before .before .before .args in
     let r = c .before .before .field-line in
-    step-malformed (a .count) (a .mask) (a .f .now) (fieldLine (a .at) (drop (a .at) (a .f .now))) (r .result)
+    step-malformed (a .params) (a .count) (a .mask) (a .f .now) (fieldLine (a .at) (drop (a .at) (a .f .now))) (r .result)
     (r .ensures (c .before .before .before .before .pre)) (c .enum-told .given .1)
 
 returns-2 : tie.Need-returns-2
 returns-2 c =
     let a = c .before .before .before .before .before .args in
     let r = c .before .before .before .field-line in
-    step-empty (a .count) (a .mask) (a .f .now) (fieldLine (a .at) (drop (a .at) (a .f .now))) (r .result)
+    step-empty (a .params) (a .count) (a .mask) (a .f .now) (fieldLine (a .at) (drop (a .at) (a .f .now))) (r .result)
     (r .ensures (c .before .before .before .before .before .pre)) _ (c .before .line .given .1)
 
 returns-3 : tie.Need-returns-3
 returns-3 c =
     let a = c .before .before .before .before .before .before .before .before .args in
     let r = c .before .before .before .before .before .before .field-line in
-    step-field (a .count) (a .mask) (a .f .now) (fieldLine (a .at) (drop (a .at) (a .f .now))) (r .result)
+    step-field (a .params) (a .count) (a .mask) (a .f .now) (fieldLine (a .at) (drop (a .at) (a .f .now))) (r .result)
     (r .ensures (c .before .before .before .before .before .before .before .before .pre))
     _ _ (c .before .before .before .before .line2 .given .1) _ (c .before .before .known-of .ensures) true
     (sym (c .if1 .taken) ∙ c .before .may-come .ensures)
@@ -58,7 +58,7 @@ returns-4 : tie.Need-returns-4
 returns-4 c =
     let a = c .before .before .before .before .before .before .before .before .args in
     let r = c .before .before .before .before .before .before .field-line in
-    step-field (a .count) (a .mask) (a .f .now) (fieldLine (a .at) (drop (a .at) (a .f .now))) (r .result)
+    step-field (a .params) (a .count) (a .mask) (a .f .now) (fieldLine (a .at) (drop (a .at) (a .f .now))) (r .result)
     (r .ensures (c .before .before .before .before .before .before .before .before .pre))
     _ _ (c .before .before .before .before .line2 .given .1) _ (c .before .before .known-of .ensures) false
     (sym (c .if1 .left) ∙ c .before .may-come .ensures)

@@ -1,6 +1,6 @@
 -- `header::read_header` meets its contract. The loop's invariant: the fields so far, in front of those that are left,
--- are all of them; mask and values are those of their names, of which no known one came twice, and their numbers stand
--- in `places`.
+-- are all of them; mask and values are those of their names, of which none that counts as known came twice, and their
+-- numbers stand in `places`.
 -- Assumes nothing.
 use mathlib.Core.Path.{sym, subst, _∙_}
 use Prim.Native.Nat.{_-_}
@@ -14,17 +14,17 @@ use Rattle.header.proofs.read_header.Statement.{statement}
 use Rattle.header.proofs.read_header.Tie as tie
 
 abbrev Inv-loop : tie.InvT-loop
-Inv-loop f at places₀ class values₀ mask₀ count₀ i₀ places values mask count i = Onward f at places₀
+Inv-loop f at params places₀ class values₀ mask₀ count₀ i₀ places values mask count i = Onward params f at places₀
     (soFar count mask values) places i
 
 abbrev μ-loop : tie.MeasureT-loop
-μ-loop f at places₀ class values₀ mask₀ count₀ i₀ places values mask count i = 32 - count
+μ-loop f at params places₀ class values₀ mask₀ count₀ i₀ places values mask count i = 32 - count
 
 table-requires : tie.Need-table-requires Inv-loop μ-loop
 table-requires c κs = search needs
 
 loop-holds : tie.Need-loop-holds Inv-loop μ-loop
-loop-holds c = let a = c .before .before .before .args in outset (a .f .now) (a .at) (a .places .now)
+loop-holds c = let a = c .before .before .before .args in outset (a .params) (a .f .now) (a .at) (a .places .now)
 
 next-step-requires : tie.Need-next-step-requires Inv-loop μ-loop
 next-step-requires c κs = c .before .before .table .ensures
@@ -45,7 +45,7 @@ returns c =
     let a = c .before .before .before .before .before .before .before .before .before .args in
     let l = c .before .before .before .before .before .loop in
     let r = c .before .before .before .next-step in
-    subst (λ h. Reads (a .f .now) (a .at) (a .places .now) h (l .places)) (sym (c .bad .ensures))
+    subst (λ h. Reads (a .params) (a .f .now) (a .at) (a .places .now) h (l .places)) (sym (c .bad .ensures))
     (bad-step (l .inv) (r .result) (r .ensures) (c .before .enum-told .given .1))
 
 enum-known-step : tie.Need-enum-known-step Inv-loop μ-loop
@@ -77,7 +77,7 @@ returns-2 c =
     let a = d .before .before .before .before .args in
     let l = d .loop in
     let r = c .before .before .before .before .before .before .before .next-step in
-    subst (λ h. Reads (a .f .now) (a .at) (a .places .now) h (l .places)) (sym (c .bad2 .ensures))
+    subst (λ h. Reads (a .params) (a .f .now) (a .at) (a .places .now) h (l .places)) (sym (c .bad2 .ensures))
     (bad-length (l .inv) (r .result) (r .ensures)
     _ (c .before .before .before .before .before .step .given .1)
     (sym (not-true _ (c .before .if1 .taken)) ∙ c .before .before .agrees .ensures))

@@ -15,7 +15,7 @@ illegal-value-requires c κs = search needs
 
 returns : tie.Need-returns
 returns c =
-    λ h v major minor m fs l n t.
+    λ h asks v major minor m fs l n t.
     let a = c .before .before .before .before .args in
     ap fails (c .illegal-value .ensures) ∙ not-good v major minor m (a .id) fs (sym (t .good) ∙ not-true _ (c .before .if1 .taken))
 
@@ -39,17 +39,17 @@ for-us-requires c κs = search needs
 
 returns-2 : tie.Need-returns-2
 returns-2 c =
-    λ h v major minor m fs l n t.
+    λ h asks v major minor m fs l n t.
     let a = c .before .before .before .before .before .before .before .args in
-    let said = ap (givenOf (a .f .now)) (c .before .before .before .value .ensures) ∙ address-told v major minor m (a .id) fs (a .f .now) (a .h) t in
+    let said = ap (givenOf (a .f .now)) (c .before .before .before .value .ensures) ∙ address-told v major minor m (a .id) fs asks (a .f .now) (a .h) t in
     ap fails (c .field-missing .ensures)
     ∙ nameless v major minor m (a .id) fs (sym (t .good) ∙ not-false _ (c .before .before .before .before .if1 .left)) (ap (givenOf (a .f .now)) (sym (c .before .enum-told .given .1)) ∙ said)
 
 returns-3 : tie.Need-returns-3
 returns-3 c =
-    λ h v major minor m fs l n t.
+    λ h asks v major minor m fs l n t.
     let a = c .before .before .before .before .before .before .before .before .before .args in
-    let said = ap (givenOf (a .f .now)) (c .before .before .before .before .before .value .ensures) ∙ address-told v major minor m (a .id) fs (a .f .now) (a .h) t in
+    let said = ap (givenOf (a .f .now)) (c .before .before .before .before .before .value .ensures) ∙ address-told v major minor m (a .id) fs asks (a .f .now) (a .h) t in
     let came = ap (λ v. some (joined v)) (c .before .part .ensures) ∙ ap (givenOf (a .f .now)) (sym (c .before .before .before .given .given .1)) ∙ said in
     c .for-us .ensures h v major minor m fs l n came ∙ named v major minor m (a .id) fs (sym (t .good) ∙ not-false _ (c .before .before .before .before .before .before .if1 .left)) _ came
 

@@ -25,11 +25,16 @@ element-copy-out-last-at c = search needs
 last-at-requires : tie.Need-last-at-requires
 last-at-requires c κs = search needs
 
+load-editions-requires : tie.Need-load-editions-requires
+load-editions-requires c κs = search needs
+
 returns : tie.Need-returns
 returns c =
-    let at = c .before .before .before .before .before in
-    let queued = rw (at .kind-by .ensures) at (c .before .before .before .before .load-queue .ensures) in
-    loads (at .before .before .args .ws .now) _ _ (at .before .load-name .ensures) queued (c .before .before .state-at .ensures) (c .last-at .ensures)
+    let at = c .before .before .before .before .before .before in
+    let queued = rw (at .kind-by .ensures) at (c .before .before .before .before .before .load-queue .ensures) in
+    let made = rw (at .kind-by .ensures) at (c .load-editions .ensures) in
+    loads (at .before .before .args .ws .now) _ _ (at .before .load-name .ensures) queued
+    (c .before .before .before .state-at .ensures) (c .before .last-at .ensures) made
 
 pub load-spec : {M : Type 1} → statement M
 load-spec =
@@ -42,4 +47,5 @@ load-spec =
     state-at-requires
     element-copy-out-last-at
     last-at-requires
+    load-editions-requires
     returns)

@@ -9,7 +9,7 @@ use Rattle.synth.specs.Kinds.{most}
 use Rattle.synth.proofs.Channels.{most-16}
 use Rattle.channelnumbers.specs.Steps.{thresholdCount}
 use Rattle.channelnumbers.proofs.Saving.{thresholds-8}
-use Rattle.loading.proofs.Loading.{Gathered, gathered-none, gathered-more, count-most, queue-part}
+use Rattle.loading.proofs.Loading.{Gathered, gathered-none, gathered-more, Leveled, leveled-none, leveled-more, count-most, queue-part}
 use borrow.Author.Needs.{needs}
 use Rattle.loading.proofs.load_queue.Statement.{statement}
 use Rattle.loading.proofs.load_queue.Tie as tie
@@ -22,11 +22,12 @@ abbrev μ-loop : tie.MeasureT-loop
 μ-loop kind ws fits count numbers₀ bits₀ i₀ numbers bits i = count - i
 
 abbrev Inv-loop2 : tie.InvT-loop2
-Inv-loop2 ws fits count numbers bits i entries-fit levels thresholds₀ level-bits₀ j₀ thresholds level-bits j =
-    (j ≤ levels) × (levels ≤ 8) × (length thresholds ≡ 16) × (j ≡ 0 → thresholds ≡ replicate 16 0) × Gathered 32 (λ n. n) 12 ws thresholds level-bits j
+Inv-loop2 ws fits count numbers bits i entries-fit levels thresholds₀ all-fit₀ j₀ thresholds all-fit j =
+    (j ≤ levels) × (levels ≤ 8) × (length thresholds ≡ 16) × (j ≡ 0 → thresholds ≡ replicate 16 0)
+    × Leveled entries-fit ws thresholds all-fit j
 
 abbrev μ-loop2 : tie.MeasureT-loop2
-μ-loop2 ws fits count numbers bits i entries-fit levels thresholds₀ level-bits₀ j₀ thresholds level-bits j = levels - j
+μ-loop2 ws fits count numbers bits i entries-fit levels thresholds₀ all-fit₀ j₀ thresholds all-fit j = levels - j
 
 -- no more are counted than the kind has
 counted : (c : tie.After-count-where Inv-loop μ-loop Inv-loop2 μ-loop2) → c .count-where .result ≤ most (c .before .before .before .args .kind)
@@ -90,7 +91,7 @@ loop2-holds c =
       rw (c .threshold-count .ensures) (thresholds-8 (a .kind) (count .count-where .result) (counted count)),
       refl,
       λ z. refl,
-      gathered-none (a .ws .now) _ (omega arith),
+      leveled-none _ (a .ws .now) _,
     )
 
 add-n-2 : tie.Need-add-n-2 Inv-loop μ-loop Inv-loop2 μ-loop2
@@ -101,6 +102,9 @@ mul-n-2 c = search needs
 
 element-copy-out-n-2 : tie.Need-element-copy-out-n-2 Inv-loop μ-loop Inv-loop2 μ-loop2
 element-copy-out-n-2 c = search needs
+
+fits-below-requires-2 : tie.Need-fits-below-requires-2 Inv-loop μ-loop Inv-loop2 μ-loop2
+fits-below-requires-2 c κs = search needs
 
 threshold-at-requires : tie.Need-threshold-at-requires Inv-loop μ-loop Inv-loop2 μ-loop2
 threshold-at-requires c κs = search needs
@@ -119,32 +123,34 @@ loop2-less c = search needs
 
 loop2-again : tie.Need-loop2-again Inv-loop μ-loop Inv-loop2 μ-loop2
 loop2-again c =
-    let ws = c .before .before .before .before .before .before .before .before .before .before .before .args .ws .now in
-    let l = c .before .before .before .loop2 in
+    let ws = c .before .before .before .before .before .before .before .before .before .before .before .before .args .ws .now in
+    let start = c .before .before .before .before .before .before .fits-below .result in
+    let l = c .before .before .before .before .loop2 in
     let inv = l .inv in (
       omega arith,
       inv .1,
       length-set (l .thresholds) (l .j) _ ∙ inv .2,
       λ z. absurd (let y : l .j + 1 ≡ 0 = z in omega arith),
-      gathered-more ws (l .thresholds) (l .level-bits) (l .j) _ (omega arith) (λ t. c .threshold-at .ensures t) (inv .4),
+      leveled-more start ws (l .thresholds) (l .all-fit) _ (l .j) _ (omega arith) (c .before .fits-below2 .ensures)
+          (λ t. c .threshold-at .ensures t) (inv .4),
     )
-
-fits-below-requires-2 : tie.Need-fits-below-requires-2 Inv-loop μ-loop Inv-loop2 μ-loop2
-fits-below-requires-2 c κs = search needs
 
 count-loaded-requires : tie.Need-count-loaded-requires Inv-loop μ-loop Inv-loop2 μ-loop2
 count-loaded-requires c κs = search needs
 
 returns : tie.Need-returns Inv-loop μ-loop Inv-loop2 μ-loop2
 returns c =
-    let a = c .before .before .before .before .before .before .before .before .before .before .before .args in
-    let l = c .before .before .before .before .before .before .before .loop in
-    let m = c .before .before .before .loop2 in
-    let count = c .before .before .before .before .before .before .before .before .count-where in
-    let end : l .i ≡ count .result = omega (arith, l .inv .0, c .before .before .before .before .before .before .loop-test .left) in
-    let levels : m .j ≡ thresholdCount (a .kind) (count .result) = omega (arith, m .inv .0, c .before .before .loop2-test .left, c .before .before .before .before .threshold-count .ensures) in
-    queue-part (a .ws .now) (a .kind) (l .numbers) (m .thresholds) (c .count-loaded .result) (l .inv .2) (m .inv .2) _ (c .before .before .before .before .before .before .before .before .before .before .front-fits .ensures) (count .ensures) (rw end at (l .inv .3))
-    (rw levels at (m .inv .4)) (rw levels at (m .inv .3)) (c .before .before .before .before .before .fits-below .ensures) (c .before .fits-below2 .ensures) (c .count-loaded .ensures)
+    let a = c .before .before .before .before .before .before .before .before .before .before .args in
+    let l = c .before .before .before .before .before .before .loop in
+    let m = c .before .before .loop2 in
+    let count = c .before .before .before .before .before .before .before .count-where in
+    let end : l .i ≡ count .result = omega (arith, l .inv .0, c .before .before .before .before .before .loop-test .left) in
+    let levels : m .j ≡ thresholdCount (a .kind) (count .result) =
+    omega (arith, m .inv .0, c .before .loop2-test .left, c .before .before .before .threshold-count .ensures) in
+    queue-part (a .ws .now) (a .kind) (l .numbers) (m .thresholds) (c .count-loaded .result) (l .inv .2) (m .inv .2) _
+    (c .before .before .before .before .before .before .before .before .before .front-fits .ensures) (count .ensures)
+    (rw end at (l .inv .3)) (rw levels at (m .inv .4)) (rw levels at (m .inv .3))
+    (c .before .before .before .before .fits-below .ensures) (c .count-loaded .ensures)
 
 pub load-queue-spec : {M : Type 1} → statement M
 load-queue-spec =
@@ -172,12 +178,12 @@ load-queue-spec =
     add-n-2
     mul-n-2
     element-copy-out-n-2
+    fits-below-requires-2
     threshold-at-requires
     mul-thresholds
     array-write-thresholds
     add-j
     loop2-less
     loop2-again
-    fits-below-requires-2
     count-loaded-requires
     returns)

@@ -215,19 +215,20 @@ lines-as-before (suc n) s at fs b =
     go (empty next) h ih e = ap (λ l. goOn l (fieldLines n s)) h ∙ e
     go (field f next) h ih e = on f next h ih (linesAlone n s next) refl e
 
--- and judgement 2 of them, with a Content-Length as it came
-abbrev pub judgedAlone : List ℕ → Lines → Fields Span
-judgedAlone f Lines.malformed = bad
-judgedAlone f (lines fs b) =
+-- and judgement 2 of them, with a Content-Length as it came and the same names counted as known
+abbrev pub judgedAlone : Bool → List ℕ → Lines → Fields Span
+judgedAlone params f Lines.malformed = bad
+judgedAlone params f (lines fs b) =
     let texts : List (Field (List ℕ)) = map (onField (part f)) fs in
-    elim (onceEach (namesOf texts) && agrees (valueOf ContentLength texts) (length f - b)) [
+    elim (onceEach params (namesOf texts) && agrees (valueOf ContentLength texts) (length f - b)) [
       | true ↦ good fs (record { start = b; len = length f - b })
       | false ↦ bad
     ]
 
-judged-before : (f : List ℕ) (fs : List (Field Span)) (b : ℕ) → judged f (lines fs b) ≡ judgedAlone f (lines fs b)
-judged-before f fs b =
-    ap (passes (onceEach (namesOf texts))) (lengths-alike (valueOf ContentLength texts) (length f - b))
+judged-before : (params : Bool) (f : List ℕ) (fs : List (Field Span)) (b : ℕ)
+    → judged params f (lines fs b) ≡ judgedAlone params f (lines fs b)
+judged-before params f fs b =
+    ap (passes (onceEach params (namesOf texts))) (lengths-alike (valueOf ContentLength texts) (length f - b))
   where
     passes : Bool → Bool → Fields Span
     passes o c = elim (o && c) [ true ↦ good fs (record { start = b; len = length f - b }) | false ↦ bad ]
@@ -235,11 +236,11 @@ judged-before f fs b =
     texts : List (Field (List ℕ))
     texts = map (onField (part f)) fs
 
-pub fields-as-before : (f : List ℕ) (at : ℕ) (fs : List (Field Span)) (body : Span)
-    → judgedAlone f (linesAlone 32 f at) ≡ good fs body → fieldsFrom f at ≡ good fs body
+pub fields-as-before : (params : Bool) (f : List ℕ) (at : ℕ) (fs : List (Field Span)) (body : Span)
+    → judgedAlone params f (linesAlone 32 f at) ≡ good fs body → fieldsFrom params f at ≡ good fs body
 unfolding fieldsFrom
-fields-as-before f at fs body = go (linesAlone 32 f at) refl
+fields-as-before params f at fs body = go (linesAlone 32 f at) refl
   where
-    go : (r : Lines) → linesAlone 32 f at ≡ r → judgedAlone f r ≡ good fs body → fieldsFrom f at ≡ good fs body
+    go : (r : Lines) → linesAlone 32 f at ≡ r → judgedAlone params f r ≡ good fs body → fieldsFrom params f at ≡ good fs body
     go Lines.malformed q e = let d : _≡_ {A = ℕ} 0 1 = cc in absurd (omega arith)
-    go (lines gs b) q e = ap (judged f) (lines-as-before 32 f at gs b q) ∙ judged-before f gs b ∙ e
+    go (lines gs b) q e = ap (judged params f) (lines-as-before 32 f at gs b q) ∙ judged-before params f gs b ∙ e

@@ -3,6 +3,7 @@
 use Prim.Native.Nat.{ℕ, zero, suc}
 use Prim.Native.String.{String}
 use mathlib.Core.Path.{_≡_, refl}
+use mathlib.Core.Bool.{false}
 use mathlib.Core.List.{List, [], _∷_, _++_, map}
 use lib.ListN.{length}
 use Rattle.octets.specs.Octets.{bytes}
@@ -131,7 +132,7 @@ blocks = refl
 
 -- judgement 2 of fields at the front of a frame
 pub judged-of : String → Fields (List ℕ)
-judged-of text = onFields (part (bytes text)) (fieldsFrom (bytes text) 0)
+judged-of text = onFields (part (bytes text)) (fieldsFrom false (bytes text) 0)
 
 pub one : String → String → String → Fields (List ℕ)
 one name value body = good (record { name = bytes name; value = bytes value } ∷ []) (bytes body)
@@ -156,7 +157,7 @@ many (suc n) text = text ++ many n text
 
 -- how many fields are read where so many of two lines stand
 pub of-two-lines : ℕ → ℕ
-of-two-lines n = length (fieldsIn (fieldsFrom (many n (bytes "A:b\r\n c\r\n") ++ bytes "\r\n") 0))
+of-two-lines n = length (fieldsIn (fieldsFrom false (many n (bytes "A:b\r\n c\r\n") ++ bytes "\r\n") 0))
 
 pub counted-once : of-two-lines 31 ∷ of-two-lines 32 ∷ of-two-lines 33 ∷ [] ≡ 31 ∷ 32 ∷ 0 ∷ []
 unfolding of-two-lines fieldsFrom fieldLine raw joined knownOf valueOf

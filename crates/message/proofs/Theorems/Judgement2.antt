@@ -1,5 +1,5 @@
 -- What judgement 2 lets pass: the body ends where the frame ends and Content-Length agrees with it, so that neither length is believed
--- over the other; at most 32 fields, each with a name of 1 to 64 bytes; no known name twice.
+-- over the other; at most 32 fields, each with a name of 1 to 64 bytes; no name twice that counts as known.
 -- Assumes nothing.
 use mathlib.Core.Path.{_≡_, sym, _∙_}
 use mathlib.Core.Bool.{true}
@@ -15,7 +15,7 @@ use Rattle.lists.proofs.Tests.{both}
 use Rattle.readers.specs.Words.{isNumber, numberOf}
 use Rattle.message.specs.Message.{Start, Field, good, Head, message, part, onField}
 use Rattle.message.specs.Known.{onceEach, namesOf, valueOf}
-use Rattle.message.specs.Reading.{agrees, reading}
+use Rattle.message.specs.Reading.{agrees, asksParams, reading}
 use Rattle.message.specs.declared.Span.{Span}
 use Rattle.message.specs.declared.Known.the-variants.{ContentLength}
 use Rattle.message.proofs.Says.{frame-length, says}
@@ -49,5 +49,5 @@ module _ (s : List ℕ) (h : Head) (st : Start Span) (fs : List (Field Span)) (b
   pub names-fit : All NameFits fs
   names-fit = says s h st (good fs body) e .fields .names
 
-  pub once : onceEach (namesOf (map (onField (part s)) fs)) ≡ true
+  pub once : onceEach (asksParams (take (h .stated) s) st) (namesOf (map (onField (part s)) fs)) ≡ true
   once = rw texts at (says s h st (good fs body) e .fields .once)

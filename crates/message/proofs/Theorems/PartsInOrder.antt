@@ -1,13 +1,14 @@
 -- Every part that reading hands back lies inside the frame, in order and without overlap.
 -- Assumes nothing.
 use mathlib.Core.Path.{_≡_}
+use mathlib.Core.Bool.{Bool}
 use mathlib.Core.List.{List, [], _∷_}
 use Prim.Native.Nat.{ℕ, _+_, _≤_, zero-le}
 use native.Mathlib.Omega.{arith}
 use lib.ListN.{length, take}
 use Rattle.framing.proofs.Frames.{frame-fits}
 use Rattle.message.specs.Message.{Start, request, response, event, Field, Fields, bad, good, Head, message}
-use Rattle.message.specs.Reading.{reading}
+use Rattle.message.specs.Reading.{asksParams, reading}
 use Rattle.message.specs.declared.Span.{Span}
 use Rattle.message.proofs.StartLine.{Named}
 use Rattle.message.proofs.Rows.{Rows, rows-from}
@@ -39,9 +40,9 @@ in-rows : (at m : ℕ) (fs : List (Field Span)) (body : Span) → Rows at fs (bo
 in-rows at m [] body r e = omega arith
 in-rows at m (x ∷ fs) body (p, q, r) e = (p, (q, in-rows (x .value .start + x .value .len) m fs body r e))
 
-in-fields : (n at : ℕ) (f : List ℕ) (fs : Fields Span) → n ≤ at → at ≤ length f → Judged f at fs → Ordered n (fieldsParts fs) (length f)
-in-fields n at f bad h l j = omega arith
-in-fields n at f (good fs body) h l j = in-rows n (length f) fs body (rows-from n at fs (body .start) h (j .rows)) (j .ends)
+in-fields : (params : Bool) (n at : ℕ) (f : List ℕ) (fs : Fields Span) → n ≤ at → at ≤ length f → Judged params f at fs → Ordered n (fieldsParts fs) (length f)
+in-fields params n at f bad h l j = omega arith
+in-fields params n at f (good fs body) h l j = in-rows n (length f) fs body (rows-from n at fs (body .start) h (j .rows)) (j .ends)
 
 in-start : (k at m : ℕ) (st : Start Span) (fs : Fields Span) → Named k st at → ((n : ℕ) → n ≤ at → Ordered n (fieldsParts fs) m)
     → Ordered 0 (partsOf st fs) m
@@ -56,7 +57,7 @@ parts-in-order s h st fs e =
     let n = frame-length s _ _ _ _ (t .frame) in
     let fits = frame-fits s _ _ _ _ (t .frame) in (
       in-start (t .k) (t .at) (h .stated) st fs (t .named)
-          (λ a l. rw n at (in-fields a (t .at) (take (h .stated) s) fs l (omega arith) (t .fields))),
+          (λ a l. rw n at (in-fields (asksParams (take (h .stated) s) st) a (t .at) (take (h .stated) s) fs l (omega arith) (t .fields))),
       fits .there,
       fits .most,
     )

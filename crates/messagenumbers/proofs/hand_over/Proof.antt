@@ -15,19 +15,19 @@ mul-if1 : tie.Need-mul-if1
 mul-if1 c =
     let a = c .before .before .before .before .before .args in
     let r = c .before .read-header in
-    omega (arith, was-read (a .f .now) (a .at) (a .major) (a .minor) (a .n) _ _ (r .ensures) .few)
+    omega (arith, was-read (a .params) (a .f .now) (a .at) (a .major) (a .minor) (a .n) _ _ (r .ensures) .few)
 
 add-if1 : tie.Need-add-if1
 add-if1 c =
     let a = c .before .before .before .before .before .args in
     let r = c .before .read-header in
-    omega (arith, was-read (a .f .now) (a .at) (a .major) (a .minor) (a .n) _ _ (r .ensures) .few)
+    omega (arith, was-read (a .params) (a .f .now) (a .at) (a .major) (a .minor) (a .n) _ _ (r .ensures) .few)
 
 returns : tie.Need-returns
 returns c =
     let a = c .before .before .before .before .before .before .args in
     let r = c .before .before .read-header in
-    hand-short (a .f .now) (a .at) (a .major) (a .minor) (a .n) _ _ (r .ensures) (a .out .now) (c .if1 .taken)
+    hand-short (a .params) (a .f .now) (a .at) (a .major) (a .minor) (a .n) _ _ (r .ensures) (a .out .now) (c .if1 .taken)
 
 put-head-requires : tie.Need-put-head-requires
 put-head-requires c κs = search needs
@@ -39,13 +39,13 @@ mul-put-places : tie.Need-mul-put-places
 mul-put-places c =
     let a = c .before .before .before .before .before .before .before .before .before .before .before .before .args in
     let r = c .before .before .before .before .before .before .before .before .read-header in
-    omega (arith, was-read (a .f .now) (a .at) (a .major) (a .minor) (a .n) _ _ (r .ensures) .few)
+    omega (arith, was-read (a .params) (a .f .now) (a .at) (a .major) (a .minor) (a .n) _ _ (r .ensures) .few)
 
 put-places-requires : tie.Need-put-places-requires
 put-places-requires c κs =
     let a = c .before .before .before .before .before .before .before .before .before .before .before .before .args in
     let r = c .before .before .before .before .before .before .before .before .read-header in
-    let w = was-read (a .f .now) (a .at) (a .major) (a .minor) (a .n) _ _ (r .ensures) in
+    let w = was-read (a .params) (a .f .now) (a .at) (a .major) (a .minor) (a .n) _ _ (r .ensures) in
     (omega (arith, w .few, w .room), omega (arith, w .few, w .room))
 
 same-length : tie.Need-same-length
@@ -56,7 +56,7 @@ returns-2 c =
     let d = c .before .before .before .before .before .before .before .before .before .before .before in
     let a = d .before .before .before .before .args in
     let r = d .read-header in
-    hand-laid (a .f .now) (a .at) (a .major) (a .minor) (a .n) _ _ (r .ensures) (a .out .now) _ _
+    hand-laid (a .params) (a .f .now) (a .at) (a .major) (a .minor) (a .n) _ _ (r .ensures) (a .out .now) _ _
     (c .before .before .before .before .before .before .before .before .before .if1 .left)
     (c .before .before .before .before .before .before .before .put-head .ensures)
     (c .before .before .put-places .ensures)

@@ -2,6 +2,7 @@
 use Prim.Native.Nat.{ℕ}
 use mathlib.Core.Path.{_≡_, refl, sym, ap, _∙_}
 use mathlib.Core.Option.{none, some}
+use mathlib.Core.Bool.{false}
 use mathlib.Core.List.{List}
 use Rattle.message.specs.Message.{Fields}
 use Rattle.message.specs.Folds.{joined}
@@ -20,13 +21,13 @@ use Rattle.methods.proofs.stop.Statement.{statement}
 use Rattle.methods.proofs.stop.Tie as tie
 
 asked-ignored : (c : tie.After-meets) (v : View) (major minor : ℕ) (fs : Fields (List ℕ)) → let a = c .before .before .args in
-    Tells (a .f .now) (a .h) fs → c .meets .result ≡ ignoresAny (asked major minor Method.Stop (a .id) fs)
+    Tells false (a .f .now) (a .h) fs → c .meets .result ≡ ignoresAny (asked major minor Method.Stop (a .id) fs)
 asked-ignored c v major minor fs told =
     let a = c .before .before .args in
     c .meets .ensures ∙ ignored-in-stop v major minor (a .id) fs (a .f .now) (a .h) told
 
 asked-list : (c : tie.After-value) (v : View) (major minor : ℕ) (fs : Fields (List ℕ)) → let a = c .before .before .before .args in
-    Tells (a .f .now) (a .h) fs → givenOf (a .f .now) (c .value .result) ≡ acting ActiveRequestIdList (asked major minor Method.Stop (a .id) fs)
+    Tells false (a .f .now) (a .h) fs → givenOf (a .f .now) (c .value .result) ≡ acting ActiveRequestIdList (asked major minor Method.Stop (a .id) fs)
 asked-list c v major minor fs told =
     let a = c .before .before .before .args in
     ap (givenOf (a .f .now)) (c .value .ensures) ∙ list-told v major minor (a .id) fs (a .f .now) (a .h) told

@@ -9,22 +9,22 @@ use Rattle.output.proofs.put_response.Tie as tie
 put-opening-requires : tie.Need-put-opening-requires
 put-opening-requires c κs =
     let s = c .before .before .before .before in
-    omega (arith, response-room (s .args .name .now) (s .args .a .id) (s .args .a .status .code) (s .args .a .state) (s .args .ids .now) (s .pre .0))
+    omega (arith, response-room (s .args .name .now) (s .args .a) (s .args .ids .now) (s .pre .0))
 
 put-response-line-requires : tie.Need-put-response-line-requires
 put-response-line-requires c κs =
     let s = c .before .before .before .before .before .before .before .before in
-    omega (arith, response-room (s .args .name .now) (s .args .a .id) (s .args .a .status .code) (s .args .a .state) (s .args .ids .now) (s .pre .0))
+    omega (arith, response-room (s .args .name .now) (s .args .a) (s .args .ids .now) (s .pre .0))
 
 put-channel-identifier-requires : tie.Need-put-channel-identifier-requires
 put-channel-identifier-requires c κs =
     let s = c .before .before .before .before .before .before .before .before .before .before .before .before in
-    omega (arith, response-room (s .args .name .now) (s .args .a .id) (s .args .a .status .code) (s .args .a .state) (s .args .ids .now) (s .pre .0))
+    omega (arith, response-room (s .args .name .now) (s .args .a) (s .args .ids .now) (s .pre .0))
 
 put-id-list-requires : tie.Need-put-id-list-requires
 put-id-list-requires c κs =
     let s = c .before .before .before .before .before .before .before .before .before .before .before .before .before .before .before .before in
-    omega (arith, response-room (s .args .name .now) (s .args .a .id) (s .args .a .status .code) (s .args .a .state) (s .args .ids .now) (s .pre .0))
+    omega (arith, response-room (s .args .name .now) (s .args .a) (s .args .ids .now) (s .pre .0))
 
 slice-aggregate-put-bytes : tie.Need-slice-aggregate-put-bytes
 slice-aggregate-put-bytes c = refl
@@ -32,12 +32,12 @@ slice-aggregate-put-bytes c = refl
 put-bytes-requires : tie.Need-put-bytes-requires
 put-bytes-requires c κs =
     let s = c .before .before .before .before .before .before .before .before .before .before .before .before .before .before .before .before .before .before .before .before .before in
-    omega (arith, response-room (s .args .name .now) (s .args .a .id) (s .args .a .status .code) (s .args .a .state) (s .args .ids .now) (s .pre .0))
+    omega (arith, response-room (s .args .name .now) (s .args .a) (s .args .ids .now) (s .pre .0))
 
 returns : tie.Need-returns
 returns c =
     let s = c .before .before .before .before .before .before .before .before .before .before .before .before .before .before .before .before .before .before .before .before .before .before .before .before in
-    rw (← response-pieces (s .args .name .now) (s .args .a .id) (s .args .a .status .code) (s .args .a .state) (s .args .ids .now) (s .args .size) (s .pre .0))
+    rw (← response-pieces (s .args .name .now) (s .args .a) (s .args .ids .now) (s .pre .0))
     (c .before .before .before .before .before .before .before .before .before .before .before .before .before .before .before .before .before .before .before .put-opening .ensures
     ▸ c .before .before .before .before .before .before .before .before .before .before .before .before .before .before .before .put-response-line .ensures
     ▸ c .before .before .before .before .before .before .before .before .before .before .before .put-channel-identifier .ensures

@@ -18,16 +18,19 @@ id-in-requires c κs = search needs
 kill-in-requires : tie.Need-kill-in-requires
 kill-in-requires c κs = search needs
 
-array-read-t12 : tie.Need-array-read-t12
-array-read-t12 c = search needs
+array-read-level-in : tie.Need-array-read-level-in
+array-read-level-in c = search needs
+
+level-in-requires : tie.Need-level-in-requires
+level-in-requires c κs = search needs
 
 returns-2 : tie.Need-returns-2
 returns-2 c =
-    let at = c .before .before .before .before .before .before in
+    let at = c .before .before .before .before .before .before .before in
     let q = at .args .q in
-    rw (c .before .id-in .ensures, c .kill-in .ensures)
-    (active-is q (numbers-16 q _ (at .good .0)) (levels-16 q _ (at .good .0)) (c .before .before .before .before .if1 .left))
+    rw (c .before .before .id-in .ensures, c .before .kill-in .ensures, c .level-in .ensures)
+    (active-is q (numbers-16 q _ (at .good .0)) (levels-16 q _ (at .good .0)) (c .before .before .before .before .before .if1 .left))
 
 pub active-spec : {M : Type 1} → statement M
 active-spec =
-    tie.close (tie.spec returns array-read-n id-in-requires kill-in-requires array-read-t12 returns-2)
+    tie.close (tie.spec returns array-read-n id-in-requires kill-in-requires array-read-level-in level-in-requires returns-2)

@@ -6,13 +6,13 @@ use native.Mathlib.Omega.{arith}
 use lib.ListN.{length, take, set}
 use lib.Seq.{take-suc-set}
 use Rattle.queue.specs.Queue.{entryIn}
-use Rattle.queue.proofs.Queues.{entriesIn, as-many, entries-16, count-is, within, entry-set}
+use Rattle.queue.proofs.Queues.{level-same, entriesIn, as-many, entries-16, count-is, within, entry-set}
 use borrow.Author.Needs.{needs}
 use Rattle.queue.proofs.join.Statement.{statement}
 use Rattle.queue.proofs.join.Tie as tie
 
 returns : tie.Need-returns
-returns c = let at = c .before in (λ room. absurd (omega (arith, room, count-is (at .args .q) _ (at .good .0), c .if1 .taken)), λ full. refl)
+returns c = let at = c .before in (λ room level. absurd (omega (arith, room, count-is (at .args .q) _ (at .good .0), c .if1 .taken)), λ full. refl)
 
 number-requires : tie.Need-number-requires
 number-requires c κs = search needs
@@ -42,9 +42,11 @@ returns-2 c =
     let h : q .count < length (entriesIn q) = omega arith in
     let more : q .count + 1 ≤ 16 = omega arith in
     let number = c .before .number in
-    let told : entryIn (number .result) (e .threshold) ≡ e = λ i. record { id = number .ensures .0 i; kill = number .ensures .1 i; threshold = e .threshold } in
-    let joined = entry-set (q .numbers) (q .thresholds) (q .count) (number .result) (e .threshold) (as-many q _ (at .good .0)) ∙ ap (set (entriesIn q) (q .count)) told in (
-      λ room. within _ more ∙ ap (take (q .count + 1)) joined ∙ rw (within q (omega arith), add-one, take-suc-set),
+    let told : e .threshold ≤ 1000000 → entryIn (number .result) (e .threshold) ≡ e =
+    λ level. let same = level-same (e .threshold) level in
+    λ i. record { id = number .ensures .0 i; kill = number .ensures .1 i; threshold = same i } in
+    let stored = entry-set (q .numbers) (q .thresholds) (q .count) (number .result) (e .threshold) (as-many q _ (at .good .0)) in (
+      λ room level. within _ more ∙ ap (take (q .count + 1)) (stored ∙ ap (set (entriesIn q) (q .count)) (told level)) ∙ rw (within q (omega arith), add-one, take-suc-set),
       λ full. absurd (omega (arith, full, left, count-is q _ (at .good .0))),
     )
 

@@ -20,8 +20,9 @@ returns : tie.Need-returns
 returns c =
     let a = c .before .before .before .before .args in
     let f = a .f .now in
-    subst (λ h. Tells f h (onFields (part f) (fieldsFrom f (a .at)))) (sym (c .before .read-header .ensures .0))
-    (tells f (a .at) (fieldsFrom f (a .at)) (fields-from f (a .at)))
+    let x = fieldsFrom (a .params) f (a .at) in
+    subst (λ h. Tells (a .params) f h (onFields (part f) x)) (sym (c .before .read-header .ensures .0))
+    (tells (a .params) f (a .at) x (fields-from (a .params) f (a .at)))
 
 pub read-spec : {M : Type 1} → statement M
 read-spec = tie.close (tie.spec slice-aggregate-read-header read-header-requires returns)

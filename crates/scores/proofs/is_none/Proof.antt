@@ -1,7 +1,7 @@
 -- `scores::is_none` looks at a recognizer's score alone. Assumes nothing.
 use mathlib.Core.Path.{_≡_, sym, ap, _∙_}
 use Rattle.synth.specs.Calls.{isNoScore}
-use Rattle.scores.proofs.Numbers.{differs}
+use Rattle.levels.proofs.Singles.{differs}
 use borrow.Author.Needs.{needs}
 use Rattle.scores.proofs.is_none.Statement.{statement}
 use Rattle.scores.proofs.is_none.Tie as tie

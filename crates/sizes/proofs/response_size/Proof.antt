@@ -1,56 +1,39 @@
 -- `sizes::response_size` meets its contract. Assumes nothing.
-use native.Mathlib.Omega.{arith}
 use Prim.Native.Nat.{_+_}
 use lib.ListN.{length}
+use borrow.Author.Needs.{needs}
 use Rattle.answer.specs.Written.{fieldsText}
 use Rattle.answer.specs.Answers.{activeRequestIdList}
 use Rattle.sizes.proofs.Messages.{response-measured, saturated}
 use Rattle.sizes.proofs.response_size.Statement.{statement}
 use Rattle.sizes.proofs.response_size.Tie as tie
 
-cast-width : tie.Need-cast-width
-cast-width c = omega arith
-
-width-requires : tie.Need-width-requires
-width-requires c κs = omega arith
-
-add-words : tie.Need-add-words
-add-words c = omega arith
-
-state-width-requires : tie.Need-state-width-requires
-state-width-requires c κs = omega arith
-
-add-words-2 : tie.Need-add-words-2
-add-words-2 c = omega arith
+words-size-requires : tie.Need-words-size-requires
+words-size-requires c κs = search needs
 
 list-size-requires : tie.Need-list-size-requires
-list-size-requires c κs = omega arith
+list-size-requires c κs = search needs
 
 add-message-size : tie.Need-add-message-size
-add-message-size c = omega arith
+add-message-size c = search needs
 
 message-size-requires : tie.Need-message-size-requires
-message-size-requires c κs = omega arith
+message-size-requires c κs = search needs
 
 returns : tie.Need-returns
 returns c =
-    let a = c .before .before .before .before .before .before .before .before .args in
-    rw (
-      response-measured (a .name .now) (a .a .id) (a .a .status .code) (a .a .state) (a .ids .now),
-      ← c .before .before .before .width .ensures .0,
-      ← c .before .before .state-width .ensures .0,
-    )
-    (saturated (35 + length (a .name .now)) _ (length (fieldsText (activeRequestIdList (a .ids .now)))) (length (a .out .now)) (c .message-size .ensures) (c .before .list-size .ensures))
+    let a = c .before .before .before .before .before .before .args in
+    let name = a .name .now in
+    let cap = length (a .out .now) in
+    let list = length (fieldsText (activeRequestIdList (a .ids .now))) in
+    rw (response-measured name (a .a) (a .ids .now), ← c .before .before .words-size .ensures .0)
+    (saturated (35 + length name) _ list cap (c .message-size .ensures) (c .before .list-size .ensures))
 
 pub response-size-spec : {M : Type 1} → statement M
 response-size-spec =
     tie.close
     (tie.spec
-    cast-width
-    width-requires
-    add-words
-    state-width-requires
-    add-words-2
+    words-size-requires
     list-size-requires
     add-message-size
     message-size-requires

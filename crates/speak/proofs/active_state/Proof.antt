@@ -25,6 +25,8 @@ others Method.BargeInOccurred n o v r = absurd (false≢true o)
 others Method.Unknown n o v r = absurd (false≢true o)
 others Method.Recognize n o v r = absurd (n refl)
 others Method.StartInputTimers n o v r = absurd (false≢true o)
+others Method.SetParams n o v r = absurd (false≢true o)
+others Method.GetParams n o v r = absurd (false≢true o)
 
 enum-told : tie.Need-enum-told
 enum-told c = search needs
@@ -34,7 +36,7 @@ unfolding act
 returns c = λ o v r. rw (c .enum-told .given .1)
 
 returns-2 : tie.Need-returns-2
-returns-2 c = λ o v r. others (c .before .args .m) (λ e. miss (0 ∷ 1 ∷ 2 ∷ 3 ∷ 4 ∷ 5 ∷ 6 ∷ 8 ∷ []) 7 tt (rw e at (c .match .keys2))) o v r
+returns-2 c = λ o v r. others (c .before .args .m) (λ e. miss (0 ∷ 1 ∷ 2 ∷ 3 ∷ 4 ∷ 5 ∷ 6 ∷ 8 ∷ 9 ∷ 10 ∷ []) 7 tt (rw e at (c .match .keys2))) o v r
 
 pub active-state-spec : {M : Type 1} → statement M
 active-state-spec = tie.close (tie.spec enum-told returns returns-2)

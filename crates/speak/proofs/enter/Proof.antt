@@ -24,7 +24,7 @@ join-requires c κs = search needs
 
 returns : tie.Need-returns
 returns c =
-    λ opened v of major minor fs told.
+    λ opened level now v of moment major minor fs told.
     let a = c .before .before .before .before .args in
     let w = withQueue (a .state) (listOf (a .q)) v in
     makes-failed v (asked major minor (a .m) (a .e .id) fs) (a .state) (a .q) _ refl (c .failed .ensures)
@@ -32,12 +32,12 @@ returns c =
 
 returns-2 : tie.Need-returns-2
 returns-2 c =
-    λ opened v of major minor fs told.
+    λ opened level now v of moment major minor fs told.
     let a = c .before .before .before .args in
     let w = withQueue (a .state) (listOf (a .q)) v in
     subst (Makes w (c .join .result))
     (sym (fit w major minor (a .m) (a .e .id) fs (ap verdictOf (sym (c .before .enum-told .given .1)) ∙ told .0)))
-    (c .join .ensures opened v of major minor fs (told .1, told .2))
+    (c .join .ensures opened level now v of moment major minor fs (told .1, told .2))
 
 pub enter-spec : {M : Type 1} → statement M
 enter-spec =

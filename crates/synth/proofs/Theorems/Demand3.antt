@@ -1,5 +1,5 @@
--- DEMAND 3. For every list of calls on a channel as its opening returned it (messages and engine reports in any order, refused ones too, any
--- bytes, causes and output room), each meeting the clause that its contract states, the ledger that is fed only by inputs, numbers returned and
+-- DEMAND 3. For every list of calls on a channel as its opening returned it (messages, engine reports and goings back in any order, refused ones too, any
+-- bytes, causes, numbers and output room), each meeting the clause that its contract states, the ledger that is fed only by inputs, numbers returned and
 -- bytes written is in balance: no id accepted twice, none closed twice, none closed before it was accepted, and those accepted and not closed
 -- are, in order of acceptance, exactly the ones the channel holds. Assumes nothing.
 use Prim.Native.Nat.{ℕ}

@@ -3,14 +3,17 @@
 use Prim.Native.Nat.{ℕ, _+_}
 use Prim.Native.String.{String}
 use mathlib.Core.Path.{_≡_, refl}
+use mathlib.Core.Bool.{false}
 use mathlib.Core.List.{List, [], _∷_, _++_, map}
 use lib.ListN.{length}
 use Rattle.octets.specs.Octets.{bytes, crlf}
 use Rattle.writers.specs.Decimal.{digits, digitsWithin}
 use Rattle.writers.specs.SelfLength.{selfLength}
+use Rattle.synth.specs.Settings.{edition, unset}
 use Rattle.synth.specs.Channel.{View}
 use Rattle.synth.specs.Calls.{Call, input}
 use Rattle.synth.specs.declared.State.the-variants.{Speaking, Recognizing}
+use Rattle.synth.specs.declared.Setting.{Setting}
 use Rattle.synth.specs.declared.LastId.the-variants.{Seen}
 use Rattle.synth.proofs.Computed.{opened, channel, killed, spared, beyond, replies, leaves, hearsBytes}
 use Rattle.synth.proofs.Theorems.Readings.{numberOrStatus}
@@ -94,7 +97,30 @@ pub left :
     ∷ []
     ≡ channel "7f3a@speechsynth" Speaking (spared 9 ∷ []) (Seen 9)
     ∷ channel "7f3a@speechsynth" Speaking (killed 8 ∷ []) (Seen 9)
-    ∷ channel "7f3a@speechrecog" Recognizing (beyond 1056964608 9 ∷ []) (Seen 9)
+    ∷ channel "7f3a@speechrecog" Recognizing (beyond 500000 9 ∷ []) (Seen 9)
     ∷ []
 unfolding synthesizer recognizer speaking opened leaves digits digitsWithin selfLength
 left = refl
+
+-- settings: milliseconds and a flag between folds, and a fold inside
+abbrev pub sets : List String → Call
+sets fields = asks "SET-PARAMS 9" (ours ∷ fields) ""
+
+pub settings-folded :
+    on synthesizer (sets ("Fetch-Timeout:\r\n 12\r\n " ∷ []))
+    ∷ on synthesizer (sets ("Fetch-Timeout:1\r\n 2" ∷ []))  -- reads `1 2`
+    ∷ on synthesizer (sets ("Kill-On-Barge-In:\r\n\tTRUE" ∷ []))
+    ∷ on synthesizer (sets ("Kill-On-Barge-In:tr\r\n ue" ∷ []))  -- reads `tr ue`
+    ∷ on synthesizer (asks "GET-PARAMS 9" (ours ∷ "Fetch-Timeout:1\r\n 2" ∷ []) "")  -- judges no value
+    ∷ []
+    ≡ 200 ∷ 404 ∷ 200 ∷ 404 ∷ 200 ∷ []
+unfolding on synthesizer opened replies hearsBytes digits digitsWithin selfLength
+settings-folded = refl
+
+pub settings-left :
+    leaves synthesizer (sets ("Fetch-Timeout:\r\n 012\r\n " ∷ "Kill-On-Barge-In:\r\n false" ∷ []) ∷ []) .editions
+    ≡ edition (Setting.Flag false) (Setting.Millis 12) Setting.Unset Setting.Unset Setting.Unset
+    ∷ unset
+    ∷ []
+unfolding synthesizer opened leaves digits digitsWithin selfLength
+settings-left = refl

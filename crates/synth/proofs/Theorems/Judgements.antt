@@ -149,6 +149,52 @@ pub in-order :
 unfolding fresh idle full row on _then-above_ judges
 in-order = refl
 
+abbrev pub sets : ℕ → List (Field (List ℕ)) → Request
+sets id fs = asks Method.SetParams id fs ""
+
+abbrev pub gets : ℕ → List (Field (List ℕ)) → Request
+gets id fs = asks Method.GetParams id fs ""
+
+abbrev pub strange : Field (List ℕ)
+strange = field "Voice-Gender" "x"
+
+-- 6 of SET-PARAMS and GET-PARAMS: 403 after 1 to 5, and before 404
+pub of-settings :
+    on idle (sets 9 (toUs ∷ strange ∷ []))
+    ∷ on idle (gets 9 (toUs ∷ strange ∷ []))
+    ∷ on idle (versioned 2 1 (sets 9 (toUs ∷ strange ∷ [])))  -- 1
+    ∷ on idle (sets 9 (strange ∷ []))  -- 3
+    ∷ on idle (sets 9 (toAnother ∷ strange ∷ []))  -- 4
+    ∷ on idle (sets 8 (toUs ∷ strange ∷ []))  -- 5
+    ∷ on idle (sets 9 (toUs ∷ illegal ∷ strange ∷ []))  -- 403 before 404
+    ∷ on idle (sets 9 (toUs ∷ illegal ∷ []))
+    ∷ on idle (gets 9 (toUs ∷ illegal ∷ []))  -- no value is judged
+    ∷ on idle (sets 9 (toUs ∷ typed ∷ []))
+    ∷ on idle (sets 9 (toUs ∷ field "Active-Request-Id-List" "7" ∷ []))
+    ∷ on idle (sets 9 (toUs ∷ field "Sensitivity-Level" "1" ∷ []))  -- of the other kind
+    ∷ on idle (gets 9 (toUs ∷ field "No-Input-Timeout" "" ∷ []))
+    ∷ on idle (asks Method.SetParams 9 (toUs ∷ sized ∷ field "Proxy-Sync-Id" "a" ∷ field "Logging-Tag" "b" ∷ []) "Hi")
+    ∷ on full (sets 20 (toUs ∷ field "Fetch-Timeout" "0" ∷ []))
+    ∷ []
+    ≡ (403 then-above 10)
+    ∷ (403 then-above 10)
+    ∷ (502 then-above 9)
+    ∷ (406 then-above 9)
+    ∷ (405 then-above 9)
+    ∷ (410 then-above 9)
+    ∷ (403 then-above 10)
+    ∷ (404 then-above 10)
+    ∷ (200 then-above 10)
+    ∷ (403 then-above 10)
+    ∷ (403 then-above 10)
+    ∷ (403 then-above 10)
+    ∷ (403 then-above 10)
+    ∷ (200 then-above 10)
+    ∷ (200 then-above 21)
+    ∷ []
+unfolding fresh idle full row on _then-above_ judges
+of-settings = refl
+
 -- 11: what passes all of them, and whether a field was ignored
 pub passing :
     on idle (speaks 9 (toUs ∷ typed ∷ sized ∷ []))

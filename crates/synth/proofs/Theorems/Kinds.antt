@@ -7,12 +7,12 @@ use mathlib.Core.List.{List, [], _∷_, map}
 use Rattle.octets.specs.Octets.{bytes}
 use Rattle.message.specs.Known as N
 use Rattle.message.specs.declared.Known.{Known}
-use Rattle.message.specs.declared.Known.the-variants.{ChannelIdentifier, ContentLength, ContentType, ActiveRequestIdList, KillOnBargeIn, ProxySyncId, LoggingTag, Unknown, ConfidenceThreshold}
+use Rattle.message.specs.declared.Known.the-variants.{ChannelIdentifier, ContentLength, ContentType, ActiveRequestIdList, KillOnBargeIn, ProxySyncId, LoggingTag, Unknown, ConfidenceThreshold, FetchTimeout, NoInputTimeout, SensitivityLevel}
 use Rattle.answer.specs.declared.Kind.{Kind}
 use Rattle.synth.specs.Kinds.{kindOf, most, methodIn}
 use Rattle.synth.specs.Channel.{View, withLast}
 use Rattle.synth.specs.Request.{Request, methodOf, acts, acting}
-use Rattle.synth.specs.Judgement.{passes, fails, _then_, unless, legal, ofKind, early, late}
+use Rattle.synth.specs.Judgement.{passes, fails, _then_, unless, permitted, legal, ofKind, early, late}
 use Rattle.synth.specs.States.{failed, afterLate, afterEarly, judge}
 use Rattle.synth.specs.declared.State.the-variants.{Speaking, Recognizing}
 use Rattle.synth.specs.declared.Method.{Method}
@@ -49,7 +49,8 @@ most-outstanding = refl
 pub heardBy : Kind → List Method
 heardBy kind =
     map (λ (name : String). methodIn kind (methodOf (bytes name)))
-    ("SPEAK" ∷ "STOP" ∷ "PAUSE" ∷ "RESUME" ∷ "CONTROL" ∷ "BARGE-IN-OCCURRED" ∷ "RECOGNIZE" ∷ "START-INPUT-TIMERS" ∷ "LISTEN" ∷ "Recognize" ∷ [])
+    ("SPEAK" ∷ "STOP" ∷ "PAUSE" ∷ "RESUME" ∷ "CONTROL" ∷ "BARGE-IN-OCCURRED" ∷ "RECOGNIZE" ∷ "START-INPUT-TIMERS" ∷ "SET-PARAMS"
+    ∷ "GET-PARAMS" ∷ "LISTEN" ∷ "Recognize" ∷ "Get-Params" ∷ [])
 
 pub a-synthesizer-hears :
     heardBy Kind.Synthesizer
@@ -60,6 +61,9 @@ pub a-synthesizer-hears :
     ∷ Method.Control
     ∷ Method.BargeInOccurred
     ∷ Method.Unknown
+    ∷ Method.Unknown
+    ∷ Method.SetParams
+    ∷ Method.GetParams
     ∷ Method.Unknown
     ∷ Method.Unknown
     ∷ Method.Unknown
@@ -77,6 +81,9 @@ pub a-recognizer-hears :
     ∷ Method.Unknown
     ∷ Method.Recognize
     ∷ Method.StartInputTimers
+    ∷ Method.SetParams
+    ∷ Method.GetParams
+    ∷ Method.Unknown
     ∷ Method.Unknown
     ∷ Method.Unknown
     ∷ []
@@ -95,6 +102,9 @@ nothing-acts ProxySyncId = refl
 nothing-acts LoggingTag = refl
 nothing-acts Unknown = refl
 nothing-acts ConfidenceThreshold = refl
+nothing-acts FetchTimeout = refl
+nothing-acts NoInputTimeout = refl
+nothing-acts SensitivityLevel = refl
 
 module _ (v : View) (r : Request) (lacked : r .method ≡ Method.Unknown) where
   absent : (k : Known) → acts Method.Unknown k ≡ false → acting k r ≡ none
@@ -103,11 +113,24 @@ module _ (v : View) (r : Request) (lacked : r .method ≡ Method.Unknown) where
 
   no-value : legal r ≡ passes
   unfolding legal unless
-  no-value = rw (absent KillOnBargeIn refl, absent ActiveRequestIdList refl, absent ConfidenceThreshold refl, legal)
+  no-value =
+      rw (
+        absent KillOnBargeIn refl,
+        absent ActiveRequestIdList refl,
+        absent ConfidenceThreshold refl,
+        absent FetchTimeout refl,
+        absent NoInputTimeout refl,
+        absent SensitivityLevel refl,
+        legal,
+      )
+
+  no-name : permitted v r ≡ passes
+  unfolding permitted unless
+  no-name = rw (lacked, permitted)
 
   fails-401 : late v r ≡ fails 401
   unfolding late ofKind _then_ unless
-  fails-401 = rw (no-value, lacked, late, ofKind)
+  fails-401 = rw (no-name, no-value, lacked, late, ofKind)
 
 -- so it is 401 where judgements 1 to 5 pass, whatever its fields, and leaves the channel as it was but for the last id seen
 pub other-kind-401 : (v : View) (r : Request) → r .method ≡ Method.Unknown → early v r ≡ passes → judge v r ≡ failed (withLast (Seen (r .id)) v) r 401
@@ -137,16 +160,20 @@ pub of-the-other-kind :
 unfolding recognizer synthesizer at replies hearsBytes
 of-the-other-kind = refl
 
--- STOP is a method of both
+-- STOP, SET-PARAMS and GET-PARAMS are methods of both
 pub of-both :
     at recognizer "MRCP/2.0 59 STOP 9\r\nChannel-Identifier:7f3a@speechrecog\r\n\r\n"
     ∷ at synthesizer "MRCP/2.0 59 STOP 9\r\nChannel-Identifier:7f3a@speechsynth\r\n\r\n"
+    ∷ at recognizer "MRCP/2.0 65 SET-PARAMS 9\r\nChannel-Identifier:7f3a@speechrecog\r\n\r\n"
+    ∷ at synthesizer "MRCP/2.0 65 SET-PARAMS 9\r\nChannel-Identifier:7f3a@speechsynth\r\n\r\n"
+    ∷ at recognizer "MRCP/2.0 65 GET-PARAMS 9\r\nChannel-Identifier:7f3a@speechrecog\r\n\r\n"
+    ∷ at synthesizer "MRCP/2.0 65 GET-PARAMS 9\r\nChannel-Identifier:7f3a@speechsynth\r\n\r\n"
     ∷ []
-    ≡ 200 ∷ 200 ∷ []
+    ≡ 200 ∷ 200 ∷ 200 ∷ 200 ∷ 200 ∷ 200 ∷ []
 unfolding recognizer synthesizer at replies hearsBytes
 of-both = refl
 
--- ---- the eighth known name counts once on either kind, and acts in RECOGNIZE alone
+-- ---- the eighth known name counts once on either kind, and acts in RECOGNIZE and SET-PARAMS alone
 
 pub threshold-elsewhere :
     at recognizer "MRCP/2.0 83 STOP 9\r\nChannel-Identifier:7f3a@speechrecog\r\nConfidence-Threshold:x\r\n\r\n"

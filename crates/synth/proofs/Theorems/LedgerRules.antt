@@ -1,7 +1,7 @@
 -- What one call puts into the ledger, rule by rule, for every input, number and bytes. Assumes nothing.
 use Prim.Native.Nat.{ℕ}
-use mathlib.Core.Path.{_≡_, refl}
-use mathlib.Core.Bool.{_&&_, _||_}
+use mathlib.Core.Path.{_≡_, refl, ap, _∙_}
+use mathlib.Core.Bool.{Bool, true, false, _&&_, _||_}
 use mathlib.Core.List.{List, [], _∷_, _++_}
 use lib.Dec.{eqb}
 use lib.Ieee.{Float}
@@ -11,7 +11,7 @@ use Rattle.message.specs.Message.{Fields, Head, request, response, event, messa
 use Rattle.message.specs.Reading.{readBytes, messagesIn}
 use Rattle.message.specs.declared.RequestState.{RequestState}
 use Rattle.synth.specs.Request.{methodOf, opens}
-use Rattle.synth.specs.Calls.{Lent, input, report}
+use Rattle.synth.specs.Calls.{Lent, input, report, back}
 use Rattle.synth.specs.Demand3.{listed, when, isEnding, eventId, collected, ledgerAccepts, ledgerCloses}
 
 -- a call that returns another number than 0 changes neither list
@@ -33,6 +33,14 @@ module _ (s : List ℕ) (h : Head) (name : List ℕ) (id : ℕ) (fs : Fields (Li
   unfolding ledgerCloses
   request-closes = rw (wrote, asks, starts)
 
+none-in : (ms : List Message) → collected (λ m. []) ms ≡ []
+none-in [] = refl
+none-in (m ∷ ms) = none-in ms
+
+never-put : (b : Bool) → when b [] ≡ []
+never-put true = refl
+never-put false = refl
+
 -- a report puts the id of each event written at the end of closed, and accepts nothing
 pub report-closes : (cause : ℕ) (score : Float) (written : List ℕ)
     → ledgerCloses (report cause score) 0 written ≡ collected (λ m. eventId (m .start)) (messagesIn (length written) written)
@@ -42,7 +50,11 @@ report-closes cause score written = refl
 pub report-accepts : (cause : ℕ) (score : Float) (written : List ℕ) → ledgerAccepts (report cause score) 0 written ≡ []
 unfolding ledgerAccepts
 report-accepts cause score written = none-in (messagesIn (length written) written)
-  where
-    none-in : (ms : List Message) → collected (λ m. []) ms ≡ []
-    none-in [] = refl
-    none-in (m ∷ ms) = none-in ms
+
+-- a going back changes neither, whatever number and bytes it came back with
+pub back-changes-neither : (n number : ℕ) (written : List ℕ)
+    → (ledgerAccepts (back n) number written ≡ []) × (ledgerCloses (back n) number written ≡ [])
+unfolding ledgerAccepts ledgerCloses
+back-changes-neither n number written =
+    let none = none-in (messagesIn (length written) written) in
+    (ap (when (eqb number 0)) none ∙ never-put (eqb number 0), ap (when (eqb number 0)) none ∙ never-put (eqb number 0))

@@ -11,7 +11,7 @@ use lib.Ieee.{Float}
 use lib.ListN.{length}
 use Rattle.lists.specs.Lists.{All}
 use Rattle.lists.proofs.Tests.{choose}
-use Rattle.message.specs.Message.{request, response, event, good, message, Message}
+use Rattle.message.specs.Message.{request, response, event, good, message, Message, Field}
 use Rattle.message.specs.Known.{knownOf, valueOf}
 use Rattle.message.specs.Reading.{readBytes, messagesIn}
 use Rattle.message.specs.declared.Known.the-variants.{ChannelIdentifier}
@@ -56,9 +56,10 @@ pub record Events (kind : Kind) (name : List ℕ) (ids : List ℕ) (cause : ℕ)
   pub named : map (λ (m : Message). valueOf ChannelIdentifier (m .fields)) says ≡ map (λ id. some name) ids
 
 pub one-response : (v : View) (r : Request) → OneResponse (v .name) r (judge v r .says)
-unfolding A.response valueOf knownOf
+unfolding A.response A.telling valueOf knownOf
 one-response v r =
-    judged-says v r (OneResponse (v .name) r) (λ state listed. by (success r) state listed (inl refl)) (λ status h. by status Complete [] (inr h))
+    judged-says v r (OneResponse (v .name) r) (λ state listed. by (success r) state listed (inl refl)) tells
+    (λ status h. by status Complete [] (inr h))
   where
     by : (status : ℕ) (state : RequestState) (listed : List ℕ) → (status ≡ success r) ⊎ (isFailure status ≡ true)
         → OneResponse (v .name) r (A.response (v .name) (r .id) status state listed ∷ [])
@@ -70,6 +71,18 @@ one-response v r =
       starts = refl;
       named = refl;
       judged = h;
+    }
+
+    tells : (fields : List (Field (List ℕ)))
+        → OneResponse (v .name) r (A.telling (v .name) (r .id) (success r) fields ∷ [])
+    tells fields = record {
+      message = A.telling (v .name) (r .id) (success r) fields;
+      status = success r;
+      state = Complete;
+      alone = refl;
+      starts = refl;
+      named = refl;
+      judged = inl refl;
     }
 
 completes-events : (kind : Kind) (name : List ℕ) (id : ℕ) (ids : List ℕ) (cause : ℕ)

@@ -3,7 +3,7 @@
 use Prim.Native.Nat.{ℕ}
 use mathlib.Core.Path.{_≡_, refl, sym, ap, subst, _∙_}
 use mathlib.Core.Bool.{false, false≢true}
-use mathlib.Core.Option.{some}
+use mathlib.Core.Option.{Option, none, some}
 use mathlib.Core.List.{List, map}
 use lib.Dec.{ltb}
 use lib.Ieee.{Float}
@@ -19,17 +19,20 @@ use Rattle.synth.specs.Kinds.{methodNumber, methods, methodIn}
 use Rattle.synth.specs.Channel.{View, kind, sound}
 use Rattle.synth.specs.Request.{methodOf, is, requestOf}
 use Rattle.synth.specs.States.{judge}
-use Rattle.synth.specs.Calls.{Lent, input, report, Call, Reply, deliver, answer, awaits, isNoScore, isNoCause, reported, onSound, call}
+use Rattle.synth.specs.Calls.{Lent, input, report, back, Call, Reply, deliver, answer, awaits, isNoScore, isNoCause, reported, goingBack, goneBack, onSound, call}
+use Rattle.synth.specs.Settings.{editionAt}
 use Rattle.synth.specs.Demand3.{askedBy}
 use Rattle.synth.specs.declared.State.{State}
 use Rattle.synth.specs.declared.State.the-variants.{Speaking, Paused}
 use Rattle.synth.specs.declared.Method.{Method}
+use Rattle.synth.specs.declared.Edition.{Edition}
 use Rattle.synth.proofs.Pauses.{Silent, Kept, judge-kept}
 
 -- the request at the front of the input is of that method
 abbrev pub Asks : Lent → Method → Type 0
 Asks (input s) m = (id : ℕ) × (askedBy (readBytes s) ≡ some (record { method = m; id = id }))
 Asks (report cause score) m = ⊥
+Asks (back n) m = ⊥
 
 module _ (v : View) (paused : v .state ≡ Paused) where
   -- speaking afterwards, only where RESUME was asked for
@@ -55,6 +58,8 @@ module _ (v : View) (paused : v .state ≡ Paused) where
   by-method s Method.Unknown id state a k e = absurd (subst Silent e (k refl))
   by-method s Method.Recognize id state a k e = absurd (subst Silent e (k refl))
   by-method s Method.StartInputTimers id state a k e = absurd (subst Silent e (k refl))
+  by-method s Method.SetParams id state a k e = absurd (subst Silent e (k refl))
+  by-method s Method.GetParams id state a k e = absurd (subst Silent e (k refl))
 
   answered : (s : List ℕ) (room : ℕ) (m : Reading (List ℕ)) → readBytes s ≡ m → Keeps (input s) (answer v room m)
   unfolding deliver
@@ -74,9 +79,14 @@ module _ (v : View) (paused : v .state ≡ Paused) where
       (λ t. choose (Keeps (report cause score)) (isNoScore (kind v) score) (λ u. never (report cause score))
       (λ u. choose (Keeps (report cause score)) (awaits (v .state)) (λ w. absurd (false≢true (sym (ap awaits paused) ∙ w))) (λ w. never (report cause score))))
 
+  goes : (n : ℕ) (o : Option Edition) → Keeps (back n) (goingBack o v)
+  goes n none = never (back n)
+  goes n (some e) = never (back n)
+
   sounded : (lent : Lent) (room : ℕ) → Keeps lent (onSound lent v room)
   sounded (input s) room = answered s room (readBytes s) refl
   sounded (report cause score) room = reports cause score room
+  sounded (back n) room = unfold goneBack in goes n (editionAt n (v .editions))
 
   pub only-resume : (c : Call) → call v c .next .state ≡ Speaking → Asks (c .lent) Method.Resume
   unfolding call

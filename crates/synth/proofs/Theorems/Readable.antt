@@ -19,13 +19,13 @@ use Rattle.readers.specs.Words.{numberOf}
 use Rattle.readers.proofs.Decimals.{number-below}
 use Rattle.writers.specs.Decimal.{digits}
 use Rattle.writers.proofs.Digits.{digits-all, digits-number, width-pos, width-below}
-use Rattle.synth.specs.Levels.{isSome}
+use Rattle.synth.specs.Levels.{levelIn, isSome}
 use Rattle.synth.specs.Settings as S
-use Rattle.synth.specs.Settings.{Name, Sort, flag, millis, sortOf, levelBy, isMillis, isLegalAs, isLegal, levelOr, settingAs, settingIn, levelText, settingText, keptAs, keptFor}
+use Rattle.synth.specs.Settings.{Name, Sort, flag, millis, sortOf, isMillis, isLegalAs, isLegal, levelOr, settingAs, settingIn, levelText, settingText, keptAs, keptFor}
 use Rattle.synth.specs.declared.Level.{Level}
 use Rattle.synth.specs.declared.Setting.{Setting}
 use Rattle.synth.proofs.Levels.{kept-most, six-length, level-text}
-use Rattle.synth.proofs.Theorems.LevelLaw.{bitsOf, same-bits, told-level, read-kept, kept-read}
+use Rattle.synth.proofs.Theorems.LevelLaw.{told-level, read-kept, kept-read}
 
 -- ---- milliseconds and levels
 
@@ -45,22 +45,22 @@ millis-legal n h =
     )
 
 -- a text is legal as a level exactly where it has millionths
-level-legal : (v : List ℕ) (l : Level) → levelBy v ≡ some l → isLegalAs S.level v ≡ true
-level-legal v l e = ap isSome (same-bits v ∙ ap bitsOf e)
+level-legal : (v : List ℕ) (l : Level) → levelIn v ≡ some l → isLegalAs S.level v ≡ true
+level-legal v l e = ap isSome e
 
-no-level : (v : List ℕ) → levelBy v ≡ none → isLegalAs S.level v ≡ true → ⊥
-no-level v e h = false≢true (sym (ap isSome (same-bits v ∙ ap bitsOf e)) ∙ h)
+no-level : (v : List ℕ) → levelIn v ≡ none → isLegalAs S.level v ≡ true → ⊥
+no-level v e h = false≢true (sym (ap isSome e) ∙ h)
 
 -- ---- what a legal value sets can be kept
 
-level-kept : (v : List ℕ) (o : Option Level) → levelBy v ≡ o → keptAs S.level (levelOr o) ≡ true
+level-kept : (v : List ℕ) (o : Option Level) → levelIn v ≡ o → keptAs S.level (levelOr o) ≡ true
 level-kept v none e = refl
 level-kept v (some l) e = read-kept v l e
 
 kept-of : (s : Sort) (v : List ℕ) → isLegalAs s v ≡ true → keptAs s (settingAs s v) ≡ true
 kept-of flag v h = refl
 kept-of millis v h = lt-ltb (numberOf v) 10000000000000000000 (millis-below v h)
-kept-of S.level v h = level-kept v (levelBy v) refl
+kept-of S.level v h = level-kept v (levelIn v) refl
 
 pub readable-kept : (n : Name) (v : List ℕ) → isLegal n v ≡ true → keptFor n (settingIn n v) ≡ true
 readable-kept n v h = kept-of (sortOf n) v h
@@ -109,13 +109,13 @@ flag-again : (v : List ℕ) (b : Bool) → alike v (bytes "true") ≡ b → Agai
 flag-again v true e = record { legal-again = rw e refl; same-again = rw e refl }
 flag-again v false e = record { legal-again = rw e refl; same-again = rw e refl }
 
-level-again : (v : List ℕ) (o : Option Level) → levelBy v ≡ o → isLegalAs S.level v ≡ true → Again S.level v
+level-again : (v : List ℕ) (o : Option Level) → levelIn v ≡ o → isLegalAs S.level v ≡ true → Again S.level v
 level-again v none e h = absurd (no-level v e h)
 level-again v (some l) e h =
-    let t : levelBy (levelText l) ≡ some l = told-level v l e in
+    let t : levelIn (levelText l) ≡ some l = told-level v l e in
     record {
       legal-again = ap (λ o. isLegalAs S.level (settingText (levelOr o))) e ∙ level-legal (levelText l) l t;
-      same-again = ap (λ o. levelOr (levelBy (settingText (levelOr o)))) e ∙ ap levelOr t ∙ ap levelOr (sym e);
+      same-again = ap (λ o. levelOr (levelIn (settingText (levelOr o)))) e ∙ ap levelOr t ∙ ap levelOr (sym e);
     }
 
 again : (s : Sort) (v : List ℕ) → isLegalAs s v ≡ true → Again s v
@@ -124,7 +124,7 @@ again millis v h = record {
   legal-again = millis-legal (numberOf v) (millis-below v h);
   same-again = ap Setting.Millis (digits-number (numberOf v));
 }
-again S.level v h = level-again v (levelBy v) refl h
+again S.level v h = level-again v (levelIn v) refl h
 
 -- what SET-PARAMS would take, GET-PARAMS would answer as a text that is legal and sets the same, for every level
 pub same-value : (n : Name) (v : List ℕ) → isLegal n v ≡ true → Again (sortOf n) v

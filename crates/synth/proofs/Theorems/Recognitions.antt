@@ -19,7 +19,14 @@ use Rattle.synth.specs.declared.LastId.the-variants.{Seen}
 use Rattle.synth.proofs.Computed.{channel, killed, beyond, field, judges, replies, leaves, reports, hearsAll}
 use Rattle.synth.proofs.Theorems.Transitions.{row, on, gives, lists}
 
--- the bits of 0.5 and of 1
+-- thresholds of 0.5 and of 1, in millionths
+abbrev pub halfway : ℕ
+halfway = 500000
+
+abbrev pub whole : ℕ
+whole = 1000000
+
+-- the bits of scores of 0.5 and of 1
 abbrev pub half : ℕ
 half = 1056964608
 
@@ -33,7 +40,7 @@ unfoldable pub idle : View
 idle = holding Idle []
 
 unfoldable pub recognizing : View
-recognizing = holding Recognizing (beyond half 7 ∷ killed 8 ∷ [])
+recognizing = holding Recognizing (beyond halfway 7 ∷ killed 8 ∷ [])
 
 unfoldable pub recognized : View
 recognized = holding Recognized []
@@ -84,13 +91,13 @@ pub while-recognizing :
     ∷ on recognizing (stops "5")
     ∷ on recognizing (plain Method.StartInputTimers)
     ∷ []
-    ≡ gives 200 Pending none Recognizing (beyond half 7 ∷ killed 8 ∷ killed 9 ∷ [])
+    ≡ gives 200 Pending none Recognizing (beyond halfway 7 ∷ killed 8 ∷ killed 9 ∷ [])
     ∷ gives 200 Complete (lists "7,8") Idle []
     ∷ gives 200 Complete (lists "7") Recognizing (killed 8 ∷ [])
-    ∷ gives 200 Complete (lists "8") Recognizing (beyond half 7 ∷ [])
+    ∷ gives 200 Complete (lists "8") Recognizing (beyond halfway 7 ∷ [])
     ∷ gives 200 Complete (lists "7,8") Idle []
-    ∷ gives 200 Complete none Recognizing (beyond half 7 ∷ killed 8 ∷ [])
-    ∷ gives 200 Complete none Recognizing (beyond half 7 ∷ killed 8 ∷ [])
+    ∷ gives 200 Complete none Recognizing (beyond halfway 7 ∷ killed 8 ∷ [])
+    ∷ gives 200 Complete none Recognizing (beyond halfway 7 ∷ killed 8 ∷ [])
     ∷ []
 unfolding recognizing recognizes row on gives lists judges
 while-recognizing = refl
@@ -108,6 +115,25 @@ pub while-recognized :
     ∷ []
 unfolding recognized recognizes row on gives judges
 while-recognized = refl
+
+-- settings: in every state, and state and queue stay
+pub anywhere :
+    on idle (asks Method.SetParams (field "Confidence-Threshold" "1" ∷ []) "")
+    ∷ on idle (plain Method.GetParams)
+    ∷ on recognizing (asks Method.SetParams (field "Confidence-Threshold" "1" ∷ []) "")
+    ∷ on recognizing (plain Method.GetParams)
+    ∷ on recognized (asks Method.SetParams (field "Confidence-Threshold" "1" ∷ []) "")
+    ∷ on recognized (plain Method.GetParams)
+    ∷ []
+    ≡ gives 200 Complete none Idle []
+    ∷ gives 200 Complete none Idle []
+    ∷ gives 200 Complete none Recognizing (beyond halfway 7 ∷ killed 8 ∷ [])
+    ∷ gives 200 Complete none Recognizing (beyond halfway 7 ∷ killed 8 ∷ [])
+    ∷ gives 200 Complete none Recognized []
+    ∷ gives 200 Complete none Recognized []
+    ∷ []
+unfolding idle recognizing recognized row on gives judges
+anywhere = refl
 
 -- exactly eight are too many for one more, and that is judged last
 pub with-eight :

@@ -1,5 +1,5 @@
--- A lent output of 305 bytes never meets refusal 7, nor one of 1,250 where a recognizer's report is handed in, whatever the channel, the call and
--- its bytes; and neither number can be lowered. Assumes nothing.
+-- A lent output of 305 bytes never meets refusal 7, nor one of 1,250 where a recognizer's report is handed in, and a going back needs no output,
+-- whatever the channel, the call and its bytes; and neither number can be lowered. Assumes nothing.
 use Prim.Native.Nat.{ℕ, _≤_}
 use mathlib.Core.Path.{_≡_, refl}
 use mathlib.Core.List.{List, [], _∷_, map}

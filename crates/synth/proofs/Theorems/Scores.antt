@@ -19,7 +19,7 @@ use Rattle.synth.specs.declared.LastId.the-variants.{Seen}
 use Rattle.synth.proofs.Computed.{channel, killed, beyond}
 use Rattle.synth.proofs.Theorems.HandledCalls.{reporting}
 use Rattle.synth.proofs.Theorems.Recognitions as R
-use Rattle.synth.proofs.Theorems.Recognitions.{half, one, holding, idle, Report, ends, leaving, refusing}
+use Rattle.synth.proofs.Theorems.Recognitions.{halfway, whole, half, one, holding, idle, Report, ends, leaving, refusing}
 
 -- ---- for all of them
 
@@ -119,19 +119,20 @@ abbrev pub noNumber : ℕ
 noNumber = 2143289344
 
 pub by-score :
-    with-threshold half 0 half  -- equal
-    ∷ with-threshold half 0 1056964609  -- one bit above
-    ∷ with-threshold half 0 1056964607  -- one bit below
+    with-threshold halfway 0 half  -- equal
+    ∷ with-threshold halfway 0 1056964609  -- one bit above
+    ∷ with-threshold halfway 0 1056964607  -- one bit below
     ∷ with-threshold 0 0 0
     ∷ with-threshold 0 0 minusZero
     ∷ with-threshold 0 0 least
-    ∷ with-threshold one 0 one
-    ∷ with-threshold one 0 infinity
-    ∷ with-threshold half 0 minusInfinity
-    ∷ with-threshold infinity 0 infinity  -- thresholds that no reading gives
-    ∷ with-threshold minusInfinity 0 minusZero
-    ∷ with-threshold noNumber 0 infinity
-    ∷ with-threshold 2139095041 0 infinity
+    ∷ with-threshold whole 0 one
+    ∷ with-threshold whole 0 infinity
+    ∷ with-threshold halfway 0 minusInfinity
+    ∷ with-threshold 100000 0 1036831949  -- 0.1, rounded
+    ∷ with-threshold 100000 0 1036831950
+    ∷ with-threshold 1 0 897988541  -- a millionth, rounded
+    ∷ with-threshold 1 0 897988542
+    ∷ with-threshold 1000001 0 infinity  -- a threshold that no reading gives
     ∷ []
     ≡ counts-001
     ∷ passes
@@ -145,16 +146,17 @@ pub by-score :
     ∷ counts-001
     ∷ passes
     ∷ counts-001
-    ∷ counts-001
+    ∷ passes
+    ∷ refusing 21 (holding Recognizing (beyond 1000001 7 ∷ killed 8 ∷ []))
     ∷ []
-unfolding with-threshold passes counts-001 R.reported ends leaving
+unfolding with-threshold passes counts-001 R.reported ends leaving refusing
 by-score = refl
 
 -- 008 counts as 001 as well; another cause stays
 pub by-cause :
-    with-threshold half 8 one
-    ∷ with-threshold half 8 half
-    ∷ with-threshold half 13 0
+    with-threshold halfway 8 one
+    ∷ with-threshold halfway 8 half
+    ∷ with-threshold halfway 13 0
     ∷ []
     ≡ leaving Recognizing (killed 8 ∷ []) (ends 7 "008 success-maxtime" ∷ [])
     ∷ counts-001
@@ -165,19 +167,19 @@ by-cause = refl
 
 -- 9 before 11, 11 before 8, with every cause
 pub no-number :
-    with-threshold half 0 noNumber
-    ∷ with-threshold half 4 noNumber
-    ∷ with-threshold half 15 2139095041
-    ∷ with-threshold half 0 4290772992
-    ∷ with-threshold half 16 noNumber
+    with-threshold halfway 0 noNumber
+    ∷ with-threshold halfway 4 noNumber
+    ∷ with-threshold halfway 15 2139095041
+    ∷ with-threshold halfway 0 4290772992
+    ∷ with-threshold halfway 16 noNumber
     ∷ R.reported idle 0 noNumber
     ∷ R.reported idle 16 noNumber
     ∷ []
-    ≡ refusing 11 (holding Recognizing (beyond half 7 ∷ killed 8 ∷ []))
-    ∷ refusing 11 (holding Recognizing (beyond half 7 ∷ killed 8 ∷ []))
-    ∷ refusing 11 (holding Recognizing (beyond half 7 ∷ killed 8 ∷ []))
-    ∷ refusing 11 (holding Recognizing (beyond half 7 ∷ killed 8 ∷ []))
-    ∷ refusing 9 (holding Recognizing (beyond half 7 ∷ killed 8 ∷ []))
+    ≡ refusing 11 (holding Recognizing (beyond halfway 7 ∷ killed 8 ∷ []))
+    ∷ refusing 11 (holding Recognizing (beyond halfway 7 ∷ killed 8 ∷ []))
+    ∷ refusing 11 (holding Recognizing (beyond halfway 7 ∷ killed 8 ∷ []))
+    ∷ refusing 11 (holding Recognizing (beyond halfway 7 ∷ killed 8 ∷ []))
+    ∷ refusing 9 (holding Recognizing (beyond halfway 7 ∷ killed 8 ∷ []))
     ∷ refusing 11 idle
     ∷ refusing 9 idle
     ∷ []
@@ -186,15 +188,15 @@ no-number = refl
 
 -- the threshold is the active one's own, kept as it came
 pub own-threshold :
-    R.reported (holding Recognizing (killed 7 ∷ beyond one 8 ∷ [])) 0 half
-    ∷ R.reported (holding Recognizing (beyond one 8 ∷ [])) 0 half
-    ∷ R.reported (holding Recognizing (beyond one 7 ∷ killed 8 ∷ [])) 0 half
-    ∷ R.reported (holding Recognizing (killed 7 ∷ beyond 2139095041 8 ∷ [])) 0 half
+    R.reported (holding Recognizing (killed 7 ∷ beyond whole 8 ∷ [])) 0 half
+    ∷ R.reported (holding Recognizing (beyond whole 8 ∷ [])) 0 half
+    ∷ R.reported (holding Recognizing (beyond whole 7 ∷ killed 8 ∷ [])) 0 half
+    ∷ R.reported (holding Recognizing (killed 7 ∷ beyond 333333 8 ∷ [])) 0 half
     ∷ []
-    ≡ leaving Recognizing (beyond one 8 ∷ []) (ends 7 "000 success" ∷ [])
+    ≡ leaving Recognizing (beyond whole 8 ∷ []) (ends 7 "000 success" ∷ [])
     ∷ leaving Recognized [] (ends 8 "001 no-match" ∷ [])
     ∷ counts-001
-    ∷ leaving Recognizing (beyond 2139095041 8 ∷ []) (ends 7 "000 success" ∷ [])
+    ∷ leaving Recognizing (beyond 333333 8 ∷ []) (ends 7 "000 success" ∷ [])
     ∷ []
 unfolding counts-001 R.reported ends leaving
 own-threshold = refl

@@ -10,8 +10,8 @@ use lib.ListN.{length}
 use Rattle.octets.specs.Octets.{bytes}
 use Rattle.writers.specs.Decimal.{digits, digitsWithin, threeDigits}
 use Rattle.answer.specs.declared.Kind.{Kind}
-use Rattle.synth.specs.Levels.{quotient, single, level, levelIn}
-use Rattle.synth.specs.Settings.{Name, killOnBargeIn, fetchTimeout, noInputTimeout, confidenceThreshold, sensitivityLevel, settings, spelling, slot, edition, withSlot, unset, levelBy, isLegal, settingIn, levelText, settingText, isKept, keptFor, isEditionOf, further, editionAt}
+use Rattle.synth.specs.Levels.{quotient, levelIn}
+use Rattle.synth.specs.Settings.{Name, killOnBargeIn, fetchTimeout, noInputTimeout, confidenceThreshold, sensitivityLevel, settings, spelling, slot, edition, withSlot, unset, isLegal, settingIn, levelText, settingText, isKept, keptFor, isEditionOf, further, editionAt}
 use Rattle.synth.specs.declared.Level.{Level}
 use Rattle.synth.specs.declared.Setting.{Setting}
 use Rattle.synth.specs.declared.Edition.{Edition}
@@ -31,7 +31,7 @@ abbrev is : ℕ → ℕ → Option Row
 is millionths bits = some (record { millionths = millionths; bits = bits })
 
 pub spellings :
-    map (λ (text : String). row (levelBy (bytes text)))
+    map (λ (text : String). row (levelIn (bytes text)))
     ("0" ∷ "0.5" ∷ "0.50" ∷ "0.500000" ∷ "0.1" ∷ "0.000001" ∷ "1" ∷ "1.000" ∷ "1.000001" ∷ "2" ∷ "0." ∷ "" ∷ [])
     ≡ is 0 0
     ∷ is 500000 1056964608
@@ -46,12 +46,12 @@ pub spellings :
     ∷ none
     ∷ none
     ∷ []
-unfolding levelBy quotient div ofInt round units odd size climb span toBits
+unfolding levelIn quotient div ofInt round units odd size climb span toBits
 spellings = refl
 
 -- a level of these millionths and bits
 abbrev held : ℕ → ℕ → Level
-held millionths bits = record { millionths = millionths; single = single bits }
+held millionths bits = record { millionths = millionths; single = ofBits binary32 bits }
 
 -- the text is that of the millionths, whatever the bits
 pub level-texts :
@@ -105,7 +105,7 @@ pub legal-values :
     ∷ (false ∷ false ∷ false ∷ false ∷ false ∷ [])  -- 20 digits
     ∷ (false ∷ false ∷ false ∷ false ∷ false ∷ [])
     ∷ []
-unfolding levelIn level quotient div ofInt round units odd size climb span toBits
+unfolding levelIn quotient div ofInt round units odd size climb span toBits
 legal-values = refl
 
 -- a value, as it is told after it was set
@@ -122,7 +122,7 @@ pub told-values :
     ∷ settingText Setting.Unset
     ∷ []
     ≡ bytes "true" ∷ bytes "false" ∷ bytes "7" ∷ bytes "0" ∷ bytes "0.500000" ∷ bytes "1.000000" ∷ [] ∷ []
-unfolding levelBy digits digitsWithin threeDigits
+unfolding levelIn digits digitsWithin threeDigits
 told-values = refl
 
 -- a text of 19 bytes

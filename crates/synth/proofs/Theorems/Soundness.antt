@@ -11,7 +11,7 @@ use lib.Dec.{eqb}
 use Rattle.lists.proofs.Tests.{choose}
 use Rattle.octets.specs.Octets.{bytes}
 use Rattle.synth.specs.Kinds.{kindOf}
-use Rattle.synth.specs.Channel.{View, kind, fresh, wellNamed, sound}
+use Rattle.synth.specs.Channel.{View, kind, fresh, wellNamed, shaped, areEditions, sound}
 use Rattle.synth.specs.Calls.{Call, Opened, call, openChannel}
 use Rattle.synth.specs.declared.State.{State}
 use Rattle.synth.specs.declared.State.the-variants.{Idle, Speaking, Paused, Recognizing, Recognized}
@@ -19,6 +19,7 @@ use Rattle.synth.specs.declared.LastId.{LastId}
 use Rattle.synth.specs.declared.LastId.the-variants.{NoneSeen, Seen}
 use Rattle.synth.proofs.Computed.{channel, killed}
 use Rattle.synth.proofs.Channels.{facts-sound}
+use Rattle.synth.proofs.Editions.{unset-alone}
 use Rattle.synth.proofs.Methods.{idle-ours}
 use Rattle.synth.proofs.Turns.{call-law}
 
@@ -34,11 +35,13 @@ opened-sound name =
       few = omega arith;
       rising = omega arith;
       in-range = omega arith;
+      editions-fit = unset-alone (kind (fresh name));
+      thresholds-fit = refl;
     }))
     (λ e. empty-name)
   where
     empty-name : sound (fresh []) ≡ false
-    empty-name = unfold sound wellNamed kindOf in refl
+    empty-name = unfold sound shaped wellNamed kindOf in refl
 
 pub call-sound : (v : View) (c : Call) → sound v ≡ true → sound (call v c .next) ≡ true
 call-sound v c s = ⊎-elim {C = sound (call v c .next) ≡ true} (λ h. rw (h .kept) s) (λ h. h .stays-sound) (call-law v c .does)
@@ -74,7 +77,7 @@ pub soundness :
     ∷ sound (channel "" Idle [] NoneSeen)
     ∷ []
     ≡ true ∷ true ∷ true ∷ true ∷ true ∷ false ∷ false ∷ false ∷ false ∷ false ∷ false ∷ false ∷ false ∷ false ∷ false ∷ false ∷ []
-unfolding named sixteen sound wellNamed kindOf
+unfolding named sixteen sound shaped areEditions wellNamed kindOf
 soundness = refl
 
 pub eight : List ℕ
@@ -97,7 +100,7 @@ pub soundness-of-a-recognizer :
     ∷ recognizer Paused (7 ∷ []) (Seen 8)
     ∷ []
     ≡ true ∷ true ∷ true ∷ true ∷ true ∷ false ∷ false ∷ false ∷ false ∷ false ∷ false ∷ false ∷ false ∷ false ∷ []
-unfolding recognizer eight sound wellNamed kindOf
+unfolding recognizer eight sound shaped areEditions wellNamed kindOf
 soundness-of-a-recognizer = refl
 
 pub opens : String → Opened

@@ -1,4 +1,4 @@
--- Every request is answered by one response, with one of the twelve statuses of document 01. Assumes nothing.
+-- Every request is answered by one response, with one of the twelve statuses of document 01, or 403. Assumes nothing.
 use Prim.Native.Nat.{ℕ}
 use mathlib.Core.Path.{_≡_, refl}
 use mathlib.Core.Bool.{true, or-true}
@@ -34,5 +34,5 @@ unfolding success
 success-listed r = choose (λ n. elem n statuses ≡ true) (ignoresAny r) (λ e. refl) (λ e. refl)
 
 pub one-answer : (v : View) (r : Request) → OneAnswer (judge v r .says)
-unfolding A.response
-one-answer v r = judged-says v r OneAnswer (λ state listed. success-listed r) (λ status h. rw (h, or-true, or-true))
+unfolding A.response A.telling
+one-answer v r = judged-says v r OneAnswer (λ state listed. success-listed r) (λ fields. success-listed r) (λ status h. rw (h, or-true, or-true))

@@ -180,6 +180,25 @@ pub while-paused :
 unfolding paused speak sparing row on gives lists judges
 while-paused = refl
 
+-- settings: in every state, and state and queue stay
+pub anywhere :
+    on idle (asks Method.SetParams (field "Kill-On-Barge-In" "false" ∷ []) "")
+    ∷ on idle (plain Method.GetParams)
+    ∷ on speaking (asks Method.SetParams (field "Kill-On-Barge-In" "false" ∷ []) "")
+    ∷ on speaking (plain Method.GetParams)
+    ∷ on paused (asks Method.SetParams (field "Kill-On-Barge-In" "false" ∷ []) "")
+    ∷ on paused (plain Method.GetParams)
+    ∷ []
+    ≡ gives 200 Complete none Idle []
+    ∷ gives 200 Complete none Idle []
+    ∷ gives 200 Complete none Speaking (killed 7 ∷ spared 8 ∷ [])
+    ∷ gives 200 Complete none Speaking (killed 7 ∷ spared 8 ∷ [])
+    ∷ gives 200 Complete none Paused (killed 7 ∷ spared 8 ∷ [])
+    ∷ gives 200 Complete none Paused (killed 7 ∷ spared 8 ∷ [])
+    ∷ []
+unfolding idle speaking paused row on gives judges
+anywhere = refl
+
 -- an engine report: its number, and the channel's state and queue afterwards
 pub record Report : Type 0 where
   pub number : ℕ

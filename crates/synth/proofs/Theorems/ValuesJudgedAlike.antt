@@ -1,5 +1,5 @@
--- Channel names, flags, types and levels are judged the same as they stand and as joined: no fold is inside one.
--- Assumes nothing.
+-- Channel names, flags, types, levels and milliseconds are judged the same as they stand and as joined, and a setting's
+-- legal value sets the same: no fold is inside one. Assumes nothing.
 use Prim.Native.Nat.{ℕ}
 use mathlib.Core.Path.{_≡_, refl, sym, ap, ap₂, _∙_}
 use mathlib.Core.Bool.{Bool, true, false, _&&_, _||_, not, false≢true}
@@ -12,16 +12,20 @@ use Rattle.lists.specs.Lists.{same}
 use Rattle.lists.proofs.Tests.{both}
 use Rattle.lists.proofs.Scans.{all-of}
 use Rattle.octets.specs.Octets.{bytes, isGap}
-use Rattle.readers.specs.Words.{isNumber}
+use Rattle.readers.specs.Words.{isNumber, numberOf}
 use Rattle.message.specs.Folds.{joined}
 use Rattle.message.proofs.Gapless.{gapless, no-gap, number-gapless}
 use Rattle.message.proofs.Theorems.JudgedAlike.{judged-alike, passes-same, names-alike, texts-alike}
 use Rattle.answer.proofs.Values.{isVisible}
 use Rattle.synth.specs.Levels.{places, atMostOne, levelIn, isSome, isLevel}
+use Rattle.synth.specs.Settings as S
+use Rattle.synth.specs.Settings.{Name, Sort, flag, millis, sortOf, isFlag, isMillis, isLegalAs, isLegal, levelOr, settingAs, settingIn}
 use Rattle.synth.specs.Channel.{wellNamed}
 use Rattle.synth.specs.Request.{isSpeak}
-use Rattle.synth.specs.Judgement.{isFlag, isSpeechType, isGrammarType, isTypeOf}
+use Rattle.synth.specs.Judgement.{isSpeechType, isGrammarType, isTypeOf}
+use Rattle.synth.specs.declared.Level.{Level}
 use Rattle.synth.specs.declared.Method.{Method}
+use Rattle.synth.specs.declared.Setting.{Setting}
 use Rattle.synth.proofs.Names.{name-visible}
 
 name-gapless : (name : List ℕ) → wellNamed name ≡ true → gapless name ≡ true
@@ -79,10 +83,31 @@ levels-alike v = judged-alike isLevel level-gapless v
 pub level-alike : (v : List ℕ) → levelIn (joined v) ≡ levelIn v
 level-alike v = go (levelIn v) refl
   where
-    no-level : (o : Option ℕ) → isSome o ≡ false → o ≡ none
+    no-level : (o : Option Level) → isSome o ≡ false → o ≡ none
     no-level none e = refl
     no-level (some n) e = absurd (false≢true (sym e))
 
-    go : (o : Option ℕ) → levelIn v ≡ o → levelIn (joined v) ≡ levelIn v
+    go : (o : Option Level) → levelIn v ≡ o → levelIn (joined v) ≡ levelIn v
     go none e = no-level (levelIn (joined v)) (levels-alike v ∙ ap isSome e) ∙ sym e
     go (some n) e = ap levelIn (passes-same isLevel level-gapless v (ap isSome e))
+
+pub millis-alike : (v : List ℕ) → isMillis (joined v) ≡ isMillis v
+millis-alike v = judged-alike isMillis (number-gapless 19) v
+
+legal-as-alike : (s : Sort) (v : List ℕ) → isLegalAs s (joined v) ≡ isLegalAs s v
+legal-as-alike flag v = flags-alike v
+legal-as-alike millis v = millis-alike v
+legal-as-alike S.level v = levels-alike v
+
+-- so is a value of a setting
+pub legal-alike : (n : Name) (v : List ℕ) → isLegal n (joined v) ≡ isLegal n v
+legal-alike n v = legal-as-alike (sortOf n) v
+
+set-as-alike : (s : Sort) (v : List ℕ) → isLegalAs s v ≡ true → settingAs s (joined v) ≡ settingAs s v
+set-as-alike flag v h = ap Setting.Flag (texts-alike (bytes "true") refl v)
+set-as-alike millis v h = ap (λ u. Setting.Millis (numberOf u)) (passes-same isMillis (number-gapless 19) v h)
+set-as-alike S.level v h = ap levelOr (level-alike v)
+
+-- and a legal one sets the same
+pub setting-alike : (n : Name) (v : List ℕ) → isLegal n v ≡ true → settingIn n (joined v) ≡ settingIn n v
+setting-alike n v h = set-as-alike (sortOf n) v h

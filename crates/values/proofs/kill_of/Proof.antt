@@ -15,7 +15,7 @@ use Rattle.values.proofs.kill_of.Statement.{statement}
 use Rattle.values.proofs.kill_of.Tie as tie
 
 -- a flag says the same as it stands and as joined
-kill-alike : (v : List ℕ) → killOf (some (joined v)) ≡ killOf (some v)
+kill-alike : (v : List ℕ) → killOf true (some (joined v)) ≡ killOf true (some v)
 kill-alike v =
     ap₂ {C = Kill} (λ a b. elim a [
       | true ↦ Kill.Of true
@@ -36,13 +36,16 @@ flag-requires : tie.Need-flag-requires
 flag-requires c κs = search needs
 
 returns : tie.Need-returns
-returns c = search needs
+returns c =
+    let a = c .before .before .before .args in
+    ap (λ g. killOf (a .otherwise) (givenOf (a .f .now) g)) (sym (c .enum-told .given .1))
 
 returns-2 : tie.Need-returns-2
 returns-2 c =
     let f = c .before .before .before .before .before .before .args .f .now in
-    c .flag .ensures ∙ ap (λ v. killOf (some v)) (c .before .part .ensures) ∙ sym (kill-alike _)
-    ∙ ap (λ g. killOf (givenOf f g)) (sym (c .before .before .before .g .given .1))
+    let otherwise = c .before .before .before .before .before .before .args .otherwise in
+    c .flag .ensures ∙ ap (λ v. killOf true (some v)) (c .before .part .ensures) ∙ sym (kill-alike _)
+    ∙ ap (λ g. killOf otherwise (givenOf f g)) (sym (c .before .before .before .g .given .1))
 
 pub kill-of-spec : {M : Type 1} → statement M
 kill-of-spec =

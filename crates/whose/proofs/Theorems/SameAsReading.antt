@@ -18,7 +18,7 @@ use Rattle.framing.specs.declared.Framing.the-variants.{Frame}
 use Rattle.framing.proofs.Frames.{frame-opened}
 use Rattle.message.specs.Message.{Start, Fields, Head, Reading, message}
 use Rattle.message.specs.StartLines.{Started, started, goingOn, startOf, lineStart, startLine}
-use Rattle.message.specs.Reading.{fieldsFrom, readFrom, readFramed, reading}
+use Rattle.message.specs.Reading.{asksParams, fieldsFrom, readFrom, readFramed, reading}
 use Rattle.message.specs.declared.Span.{Span}
 use Rattle.whose.specs.Whose.{idIn, ofStart, ofLine, window, ofOpening, whose, Agrees}
 use Rattle.whose.specs.declared.Whose.the-variants.{Malformed, Id}
@@ -116,7 +116,7 @@ module _ (s : List ℕ) (a b k n : ℕ) (e : framing s ≡ Frame a b k n) where
       go : (x : Started) → reading s ≡ readFrom head frame x → Agrees (readFrom head frame x) (Id i)
           → (h : Head) × (st : Start Span) × (fs : Fields Span) × (reading s ≡ message h st fs) × (idIn st ≡ i)
       go Started.malformed q (_, g) = let d : _≡_ {A = ℕ} 0 1 = cc in absurd (omega arith)
-      go (started st at) q g = (head, st, fieldsFrom frame at, q, (let p : i ≡ idIn st = cc in sym p))
+      go (started st at) q g = (head, st, fieldsFrom (asksParams frame st) frame at, q, (let p : i ≡ idIn st = cc in sym p))
 
 -- whatever bytes come behind those that the id was told from
 pub told-early : (s t : List ℕ) (a b k n i : ℕ) → whose s ≡ Id i → framing (s ++ t) ≡ Frame a b k n

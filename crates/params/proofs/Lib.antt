@@ -1,0 +1,5 @@
+mod Taking
+mod Standing
+mod Changing
+mod Asking
+mod Coming

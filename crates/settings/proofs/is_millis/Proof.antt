@@ -1,0 +1,35 @@
+-- `settings::is_millis` meets its contract: each sort of setting by itself. Assumes nothing.
+use mathlib.Core.Path.{sym, ap}
+use Rattle.synth.specs.Settings.{millis, keptAs}
+use borrow.Author.Needs.{needs}
+use Rattle.settings.proofs.is_millis.Statement.{statement}
+use Rattle.settings.proofs.is_millis.Tie as tie
+
+enum-told : tie.Need-enum-told
+enum-told c = search needs
+
+enum-told-2 : tie.Need-enum-told-2
+enum-told-2 c = search needs
+
+enum-known-s : tie.Need-enum-known-s
+enum-known-s c = search needs
+
+enum-told-3 : tie.Need-enum-told-3
+enum-told-3 c = search needs
+
+returns : tie.Need-returns
+returns c = search needs
+
+returns-2 : tie.Need-returns-2
+returns-2 c = search needs
+
+returns-3 : tie.Need-returns-3
+returns-3 c = ap (keptAs millis) (sym (c .before .s .given .1))
+
+returns-4 : tie.Need-returns-4
+returns-4 c = search needs
+
+pub is-millis-spec : {M : Type 1} → statement M
+is-millis-spec =
+    tie.close
+    (tie.spec enum-told enum-told-2 enum-known-s enum-told-3 returns returns-2 returns-3 returns-4)
