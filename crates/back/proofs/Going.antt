@@ -3,7 +3,7 @@ use Prim.Native.Nat.{ℕ}
 use mathlib.Core.Path.{_≡_, refl, sym, ap, _∙_}
 use mathlib.Core.Bool.{true}
 use mathlib.Core.Option.{Option, none, some}
-use mathlib.Core.List.{[]}
+use mathlib.Core.List.{List, []}
 use native.Mathlib.Omega.{arith}
 use Rattle.ledger.specs.Ledger.{Turn}
 use Rattle.synth.specs.Settings.{editionAt}
@@ -11,19 +11,18 @@ use Rattle.synth.specs.Channel.{View, withEdition, sound}
 use Rattle.synth.specs.Calls.{Reply, refuse, back, call, goingBack, goneBack}
 use Rattle.synth.specs.declared.Edition.{Edition}
 use Rattle.synth.specs.declared.LastId.{LastId}
-use Rattle.settings.specs.Kept.{foundAs}
-use Rattle.settings.specs.declared.Found.{Found}
+use Rattle.settings.specs.Kept.{asFurther}
+use Rattle.settings.specs.declared.Further.{Further}
 use Rattle.channel.specs.Channel.{view}
 use Rattle.channel.specs.declared.Channel.{Channel}
 use Rattle.calls.specs.Promise.{Leaves}
-use Rattle.calls.specs.declared.Handled.{Handled}
 
 -- what was found tells the edition
-pub found-none : (o : Option Edition) → Found.Nothing ≡ foundAs o → o ≡ none
+pub found-none : (o : Option Edition) → Further.Nothing ≡ asFurther o → o ≡ none
 found-none none e = refl
 found-none (some x) e = let d : _≡_ {A = ℕ} 0 1 = cc in absurd (omega arith)
 
-pub found-some : (e : Edition) (o : Option Edition) → Found.Of e ≡ foundAs o → o ≡ some e
+pub found-some : (e : Edition) (o : Option Edition) → Further.Of e ≡ asFurther o → o ≡ some e
 found-some e none q = let d : _≡_ {A = ℕ} 0 1 = cc in absurd (omega arith)
 found-some e (some x) q = let p : x ≡ e = cc in ap some p
 
@@ -41,12 +40,7 @@ module _ (v : View) (n : ℕ) (sane : sound v ≡ true) where
   goes-to e q = goes (some e) q
 
 -- a further edition, and nothing written
-pub leaves-further : (last : LastId) (c next : Channel) (e : Edition) {t : Turn View Reply}
-    → view last next ≡ withEdition e (view last c)
-    → t ≡ record { reply = record { number = 0; consumed = 0; written = [] }; next = withEdition e (view last c) }
-    → Leaves last c t [] (record { number = 0; consumed = 0; written = 0; last = last; channel = next }) []
-leaves-further last c next e f q =
-    rw q (record {
-      same = λ i. record { number = 0; consumed = 0; written = 0; channel = f i; out = [] };
-      kept = λ z. absurd (z refl);
-    })
+pub leaves-further : (last : LastId) (c : Channel) (es : List Edition) (e : Edition) {t : Turn View Reply}
+    → t ≡ record { reply = record { number = 0; consumed = 0; written = [] }; next = withEdition e (view last c es) }
+    → Leaves last c es t [] (record { number = 0; consumed = 0; written = 0; last = last; channel = c; further = Further.Of e }) []
+leaves-further last c es e q = rw q (record { same = refl; named = refl; kept = λ z. absurd (z refl) })

@@ -8,7 +8,6 @@ use Rattle.synth.specs.Channel.{wellNamed, fresh}
 use Rattle.synth.specs.Calls as C
 use Rattle.synth.specs.Calls.{openChannel}
 use Rattle.queue.proofs.Queues.{none-outstanding}
-use Rattle.settings.proofs.Keeping.{fresh-is}
 use Rattle.channelnames.specs.Names.{keptName}
 use Rattle.channelnames.specs.declared.Name.{Name}
 use Rattle.channelnames.proofs.Names.{name-kept}
@@ -26,4 +25,4 @@ module _ (name : List ℕ) where
 
 pub opened-as : (number : ℕ) (name : List ℕ) {n : Name} {c : Channel} {o : C.Opened} → length name ≤ 44 → n ≡ keptName name → c ≡ kept n
     → o ≡ record { number = number; channel = fresh name } → opened (record { number = number; channel = c }) ≡ o
-opened-as number name h k e f = rw (e, k, f, name-kept name h, none-outstanding, fresh-is)
+opened-as number name h k e f = rw (e, k, f, name-kept name h, none-outstanding)

@@ -3,7 +3,7 @@ ghost use mathlib.Core.Path.{_≡_};
 ghost use Prim.Native.Nat.{_≤_};
 ghost use lib.Dec.{leb};
 ghost use Rattle.synth.specs.Kinds.{kindOf};
-ghost use Rattle.synth.specs.Channel.{shaped, sound, withQueue, withEdition, is, idleUnseen, firstAbove};
+ghost use Rattle.synth.specs.Channel.{shaped, withQueue, is, idleUnseen, firstAbove};
 ghost use Rattle.synth.specs.declared.State.the-variants.{Idle};
 ghost use Rattle.synth.specs.Calls.{openChannel};
 ghost use mathlib.Core.List.{List};
@@ -11,19 +11,18 @@ ghost use Rattle.synth.specs.declared.Edition.{Edition};
 ghost use Rattle.synth.specs.declared.LastId.{LastId};
 ghost use Rattle.channelnames.specs.Names.{nameOf};
 ghost use Rattle.queue.specs.Queue.{listOf};
-ghost use Rattle.channel.specs.Channel.{view, viewOn, currentOf, opened, kept};
+ghost use Rattle.channel.specs.Channel.{view, currentOf, opened, kept};
 
-// What the caller keeps of a channel, but for the last id seen, which stands beside it. The state stands last: in front
-// of the queue it would split each copy in two.
+// What the caller keeps of a channel, but for the last id seen and the editions of its settings, which stand beside it:
+// each step that is handed a channel costs a copy. The state stands last: in front of the queue it would split each copy
+// in two.
 pub struct Channel {
     pub name: channelnames::Name,
     pub queue: queue::Queue,
     pub state: synth::State,
-    pub editions: settings::Editions,
 }
 
-// What a request is judged on: the channel with its settings of the moment. The older editions stay behind, since each
-// step that is handed a channel costs a copy.
+// What a request is judged on: the channel with its settings of the moment.
 pub struct Current {
     pub name: channelnames::Name,
     pub queue: queue::Queue,
@@ -84,16 +83,14 @@ fn idle_unseen(last: synth::LastId, state: synth::State) -> bool
     }
 }
 
-// Soundness but for the settings and thresholds.
-fn is_shaped(
-    last: synth::LastId,
-    name: channelnames::Name,
-    state: synth::State,
-    queue: queue::Queue,
-) -> bool
-    ensures { λ r. ⌜ ((es : List Edition) → r
-        ≡ shaped (record { name = nameOf name; state = state; queue = listOf queue; last = last; editions = es })) ⌝ }
+// Soundness but for the editions. Any channel at all may be handed in, its size and its count past the arrays too. No
+// queue has a threshold that reading cannot give.
+pub fn is_shaped(last: synth::LastId, c: Channel) -> bool
+    ensures { λ r. ⌜ ((es : List Edition) → r ≡ shaped (view last c es)) ⌝ }
 {
+    let name = c.name;
+    let state = c.state;
+    let queue = c.queue;
     if !channelnames::is_well_named(name) {
         return false;
     }
@@ -107,29 +104,12 @@ fn is_shaped(
     queue::is_rising(kind, queue, first_above(last))
 }
 
-// Any channel at all may be handed in, its size and its counts past the arrays too. No queue has a threshold that
-// reading cannot give.
-pub fn is_sound(last: synth::LastId, c: Channel) -> bool
-    ensures { λ r. ⌜ r ≡ sound (view last c) ⌝ }
+pub fn present(c: Channel, set: synth::Edition) -> Current
+    ensures { λ r. ⌜ r ≡ currentOf c set ⌝ }
 {
     let name = c.name;
     let state = c.state;
     let queue = c.queue;
-    if !is_shaped(last, name, state, queue) {
-        return false;
-    }
-    let editions = c.editions;
-    settings::are_editions(channelnames::kind_by(name), editions)
-}
-
-pub fn present(c: Channel) -> Current
-    ensures { λ r. ⌜ r ≡ currentOf c ⌝ }
-{
-    let name = c.name;
-    let state = c.state;
-    let queue = c.queue;
-    let editions = c.editions;
-    let set = settings::newest(editions);
     Current {
         name,
         state,
@@ -138,8 +118,7 @@ pub fn present(c: Channel) -> Current
     }
 }
 
-// A channel anew, one with another state and queue, and one with a further edition. Only `loading` builds one
-// otherwise, from C's numbers.
+// A channel anew, and one with another state and queue. Only `loading` builds one otherwise, from C's numbers.
 pub fn fresh(name: channelnames::Name) -> Channel
     ensures { λ r. ⌜ r ≡ kept name ⌝ }
 {
@@ -147,21 +126,14 @@ pub fn fresh(name: channelnames::Name) -> Channel
         name,
         state: synth::State::Idle,
         queue: queue::empty(),
-        editions: settings::fresh(),
     }
 }
 
 pub fn with_queue(c: Channel, state: synth::State, queue: queue::Queue) -> Channel
-    ensures { λ r. ⌜ ((last : LastId) → view last r ≡ withQueue state (listOf queue) (view last c)) ⌝ }
+    ensures { λ r. ⌜ ((last : LastId) (es : List Edition)
+        → view last r es ≡ withQueue state (listOf queue) (view last c es)) ⌝ }
 {
     Channel { state, queue, ..c }
-}
-
-pub fn with_edition(c: Channel, e: synth::Edition) -> Channel
-    ensures { λ r. ⌜ ((last : LastId) → view last r ≡ withEdition e (view last c)) ⌝ }
-{
-    let editions = settings::further(c.editions, e);
-    Channel { editions, ..c }
 }
 
 // A refused opening gives a channel with an empty name, so not sound.

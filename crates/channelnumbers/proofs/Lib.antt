@@ -1,2 +1,4 @@
 pub mod Saving
+pub mod Tidying
+pub mod Pushing
 pub mod Theorems

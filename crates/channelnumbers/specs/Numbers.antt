@@ -63,13 +63,17 @@ abbrev pub editionsNumbers : Kind → List Edition → List ℕ
 editionsNumbers kind [] = []
 editionsNumbers kind (e ∷ es) = editionNumbers kind e ++ editionsNumbers kind es
 
+-- at 64 how many there are, and those
+abbrev pub editionsPart : Kind → List Edition → List ℕ
+editionsPart kind es = length es ∷ padded 24 (editionsNumbers kind es)
+
 -- the numbers of a channel; the last id seen is told by the first one above it. The kind is that of a sound one: any
 -- other has none that counts, and the last byte of its name is looked at alone
 unfoldable pub numbersOf : View → List ℕ
 numbersOf v =
     stateNumber (v .state) ∷ firstAbove (v .last) ∷ length (v .queue) ∷ length (v .name)
     ∷ padded 16 (queueNumbers (kindBy (v .name)) (v .queue)) ++ padded 44 (v .name)
-    ++ (length (v .editions) ∷ padded 24 (editionsNumbers (kindBy (v .name)) (v .editions)))
+    ++ editionsPart (kindBy (v .name)) (v .editions)
 
 abbrev pub stateAt : ℕ → Option State
 stateAt zero = some Idle

@@ -15,7 +15,9 @@ use Rattle.synth.specs.Kinds.{kindOf}
 use Rattle.synth.specs.Settings.{settingField}
 use Rattle.synth.specs.declared.Edition.{Edition}
 use Rattle.told.specs.Told.{told}
+use Rattle.settings.specs.declared.Further.{Further}
 use Rattle.outcomes.specs.declared.Outcome.{Outcome}
+use Rattle.params.specs.declared.Effect.{Effect}
 use Rattle.synth.specs.Channel.{View}
 use Rattle.synth.specs.Calls.{Reply, answer}
 
@@ -40,3 +42,9 @@ listing name o = written (responseOf name (o .answer) (take (o .listed .count) (
 abbrev pub settingsTold : List ℕ → Edition → Answer → ℕ → List ℕ
 settingsTold name set a asked =
     written (telling name (a .id) (a .status .code) (map (settingField set) (told (kindOf name) asked)))
+
+-- the edition that a request makes
+abbrev pub madeBy : Effect → Further
+madeBy Effect.Nothing = Further.Nothing
+madeBy (Effect.Set e) = Further.Of e
+madeBy (Effect.Tell asked) = Further.Nothing

@@ -6,32 +6,35 @@ ghost use lib.ListN.{length};
 ghost use Rattle.message.specs.Message.{InRange};
 ghost use Rattle.message.specs.StartLines.{startLine};
 ghost use Rattle.startline.specs.StartLine.{startOf};
-ghost use Rattle.synth.specs.Channel.{sound};
+ghost use mathlib.Core.List.{List};
 ghost use Rattle.synth.specs.Settings.{newest};
-ghost use Rattle.synth.specs.Channel.{View, withQueue};
+ghost use Rattle.synth.specs.Channel.{View, shaped, sound};
 ghost use Rattle.synth.specs.Calls.{input, deliver as delivering};
-ghost use Rattle.synth.specs.declared.LastId.{LastId};
+ghost use Rattle.synth.specs.declared.Edition.{Edition};
 ghost use Rattle.answer.specs.Written.{writtenAll};
 ghost use Rattle.message.specs.declared.RequestState.the-variants.{Complete};
 ghost use Rattle.output.specs.Delivery.{counted, delivered};
-ghost use Rattle.queue.specs.Queue.{listOf};
 ghost use Rattle.channelnames.specs.Names.{nameOf};
-ghost use Rattle.params.specs.Doing.{Does, leftBy};
+ghost use Rattle.params.specs.Doing.{Does};
 ghost use Rattle.synth.specs.States as S;
 ghost use Rattle.channel.specs.Channel.{view};
 ghost use Rattle.judgement.specs.Judged.{Judges};
 ghost use Rattle.calls.specs.Promise.{Leaves, Promise};
-ghost use Rattle.client.specs.Turns.{lineTurn, frameTurn, listing, settingsTold};
+ghost use Rattle.client.specs.Turns.{lineTurn, frameTurn, listing, settingsTold, madeBy};
 
-// Writes the answer that lists ids under the name of a channel, or nothing where it is longer than the output.
+// Writes the answer that lists ids under the name of a channel, or nothing where it is longer than the output. No
+// outcome of a judgement lists more than 16.
 fn respond(name: channelnames::Name, o: outcomes::Outcome, out: &mut [u8]) -> output::Written
     requires { ⌜ name .size ≤ 44 ⌝ }
-    requires { ⌜ o .listed .count ≤ 16 ⌝ }
-    ensures { λ r. ⌜ r ≡ counted (listing (nameOf name) o) (now (out .entry)) ⌝ }
-    ensures { λ _. ⌜ now (out .exit) ≡ delivered (listing (nameOf name) o) (now (out .entry)) ⌝ }
+    ensures { λ r. ⌜ (o .listed .count ≤ 16 → r ≡ counted (listing (nameOf name) o) (now (out .entry))) ⌝ }
+    ensures { λ _. ⌜ (o .listed .count ≤ 16
+        → now (out .exit) ≡ delivered (listing (nameOf name) o) (now (out .entry))) ⌝ }
 {
     let bytes = name.bytes;
     let listed = o.listed;
+    if queue::MOST < listed.count {
+        return output::Written::TooLong;
+    }
     let ids = listed.ids;
     output::respond(out, &bytes[..name.size], o.answer, &ids[..listed.count])
 }
@@ -57,42 +60,38 @@ fn tell(
 }
 
 // Writes what a request that was judged is answered.
-fn write(c: channel::Current, done: params::Done, out: &mut [u8]) -> output::Written
-    requires { ⌜ c .name .size ≤ 44 ⌝ }
-    requires { ⌜ done .outcome .listed .count ≤ 16 ⌝ }
-    ensures { λ r. ⌜ ((v : View) (d : S.Outcome) → v .name ≡ nameOf (c .name) → newest (v .editions) ≡ c .set
+fn write(
+    name: channelnames::Name,
+    set: synth::Edition,
+    done: params::Done,
+    out: &mut [u8],
+) -> output::Written
+    requires { ⌜ name .size ≤ 44 ⌝ }
+    ensures { λ r. ⌜ ((v : View) (d : S.Outcome) → v .name ≡ nameOf name → newest (v .editions) ≡ set
         → Does v (done .outcome) (done .effect) d
         → (r ≡ counted (writtenAll (d .says)) (now (out .entry)))
         × (now (out .exit) ≡ delivered (writtenAll (d .says)) (now (out .entry)))) ⌝ }
 {
-    let name = c.name;
     let outcome = done.outcome;
     let effect = done.effect;
     match effect {
         params::Effect::Nothing => respond(name, outcome, out),
         params::Effect::Set(_) => respond(name, outcome, out),
         params::Effect::Tell(asked) => {
-            let set = c.set;
             let a = outcome.answer;
             tell(name, set, a, asked, out)
         }
     }
 }
 
-// The channel after a request that was judged.
-fn after(c: channel::Channel, done: params::Done) -> channel::Channel
-    ensures { λ r. ⌜ ((last : LastId) → view last r ≡ leftBy (done .effect)
-        (withQueue (done .outcome .state) (listOf (done .outcome .queue)) (view last c))) ⌝ }
+// The edition that a request makes.
+fn made(effect: params::Effect) -> settings::Further
+    ensures { λ r. ⌜ r ≡ madeBy effect ⌝ }
 {
-    let outcome = done.outcome;
-    let state = outcome.state;
-    let queue = outcome.queue;
-    let next = channel::with_queue(c, state, queue);
-    let effect = done.effect;
     match effect {
-        params::Effect::Nothing => next,
-        params::Effect::Set(e) => channel::with_edition(next, e),
-        params::Effect::Tell(_) => next,
+        params::Effect::Nothing => settings::Further::Nothing,
+        params::Effect::Set(e) => settings::Further::Of(e),
+        params::Effect::Tell(_) => settings::Further::Nothing,
     }
 }
 
@@ -100,22 +99,28 @@ fn after(c: channel::Channel, done: params::Done) -> channel::Channel
 fn deliver(
     last: synth::LastId,
     c: channel::Channel,
+    set: synth::Edition,
     consumed: usize,
     j: judgement::Judged,
     out: &mut [u8],
 ) -> calls::Handled
-    requires { ⌜ sound (view last c) ≡ true ⌝ }
-    requires { ⌜ j .done .outcome .listed .count ≤ 16 ⌝ }
-    ensures { λ r. ⌜ ((d : S.Outcome) → Judges (view last c) j d
-        → Leaves last c (delivering (view last c) consumed (length (now (out .entry))) d)
+    requires { ⌜ c .name .size ≤ 44 ⌝ }
+    ensures { λ r. ⌜ ((es : List Edition) (d : S.Outcome) → newest es ≡ set → Judges (view last c es) j d
+        → Leaves last c es (delivering (view last c es) consumed (length (now (out .entry))) d)
         (now (out .entry)) r (now (out .exit))) ⌝ }
 {
     let done = j.done;
-    let w = write(channel::present(c), done, out);
+    let name = c.name;
+    let w = write(name, set, done, out);
     match w {
         output::Written::TooLong => calls::refused(last, c, 7, 0), // the caller may lend more and try again
         output::Written::Count(written) => {
-            let next = after(c, done);
+            let outcome = done.outcome;
+            let state = outcome.state;
+            let queue = outcome.queue;
+            let next = channel::with_queue(c, state, queue);
+            let effect = done.effect;
+            let further = made(effect);
             let seen = j.last;
             calls::Handled {
                 number: 0,
@@ -123,6 +128,7 @@ fn deliver(
                 written,
                 last: seen,
                 channel: next,
+                further,
             }
         }
     }
@@ -132,6 +138,7 @@ fn deliver(
 fn handle_line(
     last: synth::LastId,
     c: channel::Channel,
+    set: synth::Edition,
     f: &[u8],
     start: startline::Start,
     at: usize,
@@ -139,18 +146,18 @@ fn handle_line(
     minor: u64,
     out: &mut [u8],
 ) -> calls::Handled
-    requires { ⌜ sound (view last c) ≡ true ⌝ }
+    requires { ⌜ c .name .size ≤ 44 ⌝ }
     requires { ⌜ InRange (startOf start) ⌝ }
-    ensures { λ r. ⌜ Leaves last c
-        (lineTurn (view last c) (length (now (out .entry))) (now (f .entry)) major minor at start)
-        (now (out .entry)) r (now (out .exit)) ⌝ }
+    ensures { λ r. ⌜ ((es : List Edition) → newest es ≡ set → sound (view last c es) ≡ true → Leaves last c es
+        (lineTurn (view last c es) (length (now (out .entry))) (now (f .entry)) major minor at start)
+        (now (out .entry)) r (now (out .exit))) ⌝ }
 {
     let length = f.len();
     match start {
         startline::Start::Request(name, id) => {
-            let now = channel::present(c);
+            let now = channel::present(c, set);
             let j = judgement::judge(last, now, f, at, major, minor, name, id as u32);
-            deliver(last, c, length, j, out)
+            deliver(last, c, set, length, j, out)
         }
         startline::Start::Response(_, _, _) => calls::refused(last, c, 6, length),
         startline::Start::Event(_, _, _) => calls::refused(last, c, 6, length),
@@ -161,15 +168,17 @@ fn handle_line(
 fn handle_frame(
     last: synth::LastId,
     c: channel::Channel,
+    set: synth::Edition,
     f: &[u8],
     k: usize,
     major: u64,
     minor: u64,
     out: &mut [u8],
 ) -> calls::Handled
-    requires { ⌜ sound (view last c) ≡ true ⌝ }
-    ensures { λ r. ⌜ Leaves last c (frameTurn (view last c) (length (now (out .entry))) (now (f .entry)) major minor
-        (startLine k (now (f .entry)))) (now (out .entry)) r (now (out .exit)) ⌝ }
+    requires { ⌜ c .name .size ≤ 44 ⌝ }
+    ensures { λ r. ⌜ ((es : List Edition) → newest es ≡ set → sound (view last c es) ≡ true → Leaves last c es
+        (frameTurn (view last c es) (length (now (out .entry))) (now (f .entry)) major minor
+        (startLine k (now (f .entry)))) (now (out .entry)) r (now (out .exit))) ⌝ }
 {
     let line = startline::start_line(f, k);
     match line {
@@ -177,6 +186,7 @@ fn handle_frame(
         startline::StartLine::Line(start, at) => handle_line(
             last,
             c,
+            set,
             f,
             start,
             at,
@@ -187,11 +197,19 @@ fn handle_frame(
     }
 }
 
-// A client message: 21 before all, then 1 to 6, then 7.
-pub fn handle(last: synth::LastId, c: channel::Channel, s: &[u8], out: &mut [u8]) -> calls::Handled
-    ensures { λ r. ⌜ Promise last c (input (now (s .entry))) (now (out .entry)) r (now (out .exit)) ⌝ }
+// A client message: 21 before all, then 1 to 6, then 7. Editions that no channel of its kind has are the caller's to
+// refuse.
+pub fn handle(
+    last: synth::LastId,
+    c: channel::Channel,
+    set: synth::Edition,
+    s: &[u8],
+    out: &mut [u8],
+) -> calls::Handled
+    ensures { λ r. ⌜ ((es : List Edition) → newest es ≡ set → sound (view last c es) ≡ shaped (view last c es)
+        → Promise last c es (input (now (s .entry))) (now (out .entry)) r (now (out .exit))) ⌝ }
 {
-    if !channel::is_sound(last, c) { // before the bytes are looked at
+    if !channel::is_shaped(last, c) { // before the bytes are looked at
         return calls::refused(last, c, 21, 0);
     }
     let f = framing::frame(s);
@@ -203,6 +221,7 @@ pub fn handle(last: synth::LastId, c: channel::Channel, s: &[u8], out: &mut [u8]
         framing::Framing::Frame(major, minor, k, n) => handle_frame(
             last,
             c,
+            set,
             &s[..n],
             k,
             major,

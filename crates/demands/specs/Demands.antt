@@ -1,5 +1,6 @@
 -- Demands 1 and 3 of the code, over the clause that the contracts of `handle`, `report` and `go_back` promise: document
--- 01, "Refusal numbers" and "How tight the promises are", and document 02, K1 and K5.
+-- 01, "Refusal numbers" and "How tight the promises are", and document 02, K1 and K5. The editions stand beside the
+-- channel: those that no channel of its kind has are the caller's to refuse, and FromC.antt says that they are.
 use Prim.Native.Nat.{ℕ}
 use mathlib.Core.Path.{_≡_}
 use mathlib.Core.Bool.{Bool, true, false, not}
@@ -17,8 +18,9 @@ use Rattle.message.specs.StartLines.{Started, started, startLine}
 use Rattle.message.specs.Reading.{readBytes}
 use Rattle.answer.specs.Written.{writtenAll}
 use Rattle.ledger.specs.Ledger.{Exchange, Balanced, Run}
-use Rattle.synth.specs.Settings.{editionAt}
+use Rattle.synth.specs.Settings.{unset, editionAt}
 use Rattle.synth.specs.Channel.{View, kind, withEdition, held, sound}
+use Rattle.synth.specs.Channel.{shaped}
 use Rattle.synth.specs.Request.{requestOf}
 use Rattle.synth.specs.States.{Outcome, judge, completed}
 use Rattle.synth.specs.Calls.{Lent, input, report, back, Call, Reply, awaits, isNoScore, isNoCause, openChannel}
@@ -28,6 +30,7 @@ use Rattle.synth.specs.declared.Entry.{Entry}
 use Rattle.synth.specs.declared.Edition.{Edition}
 use Rattle.synth.specs.declared.LastId.{LastId}
 use Rattle.synth.specs.declared.LastId.the-variants.{NoneSeen}
+use Rattle.settings.specs.Kept.{furtherOn}
 use Rattle.channel.specs.Channel.{view, opened}
 use Rattle.channel.specs.declared.Channel.{Channel}
 use Rattle.channel.specs.declared.Opened.{Opened}
@@ -142,46 +145,54 @@ firstDue (l ∷ ls) = elim (l .due) [ true ↦ some l | false ↦ firstDue ls ]
 
 -- A line that is due: its number and count, no byte written, the very channel, the output as it was. None due: 0, the stated length as
 -- consumed, the exact answer at the front of the output, its rest as it was, and the channel of the outcome.
-abbrev pub ByTable : Option Line → LastId → Channel → Lent → List ℕ → Handled → List ℕ → Type 0
-ByTable (some l) last c lent out r after = (r ≡ refusing last c (l .number) (l .consumed)) × (after ≡ out)
-ByTable none last c lent out r after =
-    let answer : List ℕ = exact (view last c) lent in
-    leftIn r after ≡ record {
+abbrev pub ByTable : Option Line → LastId → Channel → List Edition → Lent → List ℕ → Handled → List ℕ → Type 0
+ByTable (some l) last c es lent out r after = (r ≡ refusing last c (l .number) (l .consumed)) × (after ≡ out)
+ByTable none last c es lent out r after =
+    let answer : List ℕ = exact (view last c es) lent in
+    leftIn es r after ≡ record {
       number = 0;
       consumed = stated lent;
       written = length answer;
-      channel = outcome (view last c) lent .next;
+      channel = outcome (view last c es) lent .next;
       out = answer ++ drop (length answer) out;
     }
 
 -- Demand 1: whatever `handle`, `report` and `go_back` promise is what the first line of the table that is due says, and
 -- a sound channel stays sound
 abbrev pub Demand1OfTheCode : Type 0
-Demand1OfTheCode = (last : LastId) (c : Channel) (lent : Lent) (out : List ℕ) (r : Handled) (after : List ℕ) → Promise last c lent out r after
-    → ByTable (firstDue (table (view last c) lent (length out))) last c lent out r after
-    × (sound (view last c) ≡ true → sound (view (r .last) (r .channel)) ≡ true)
+Demand1OfTheCode = (last : LastId) (c : Channel) (es : List Edition) (lent : Lent) (out : List ℕ) (r : Handled) (after : List ℕ)
+    → Promise last c es lent out r after
+    → ByTable (firstDue (table (view last c es) lent (length out))) last c es lent out r after
+    × (sound (view last c es) ≡ true → sound (view (r .last) (r .channel) (furtherOn (r .further) es)) ≡ true)
 
--- what a caller keeps from call to call: the last id seen, and the channel
+-- what a caller keeps from call to call: the last id seen, the channel, and the editions of its settings
 pub record Kept : Type 0 where
   pub last : LastId
   pub channel : Channel
+  pub editions : List Edition
 
 abbrev pub viewed : Kept → View
-viewed k = view (k .last) (k .channel)
+viewed k = view (k .last) (k .channel) (k .editions)
 
--- one call of the code on what is kept, and what is seen of it from outside
+-- one call of the code on what is kept, and what is seen of it from outside; it is promised of editions that are a
+-- channel's, and of a channel that has not its shape
 pub record Called (kept : Kept) (k : Call) (r : Reply) (next : Kept) : Type 0 where
   pub out : List ℕ
   pub after : List ℕ
   pub handled : Handled
   pub room : k .room ≡ length out
-  pub promised : Promise (kept .last) (kept .channel) (k .lent) out handled after
+  pub promised : sound (viewed kept) ≡ shaped (viewed kept)
+      → Promise (kept .last) (kept .channel) (kept .editions) (k .lent) out handled after
   pub seen : r ≡ record { number = handled .number; consumed = handled .consumed; written = take (handled .written) after }
-  pub left : next ≡ record { last = handled .last; channel = handled .channel }
+  pub left : next ≡ record {
+    last = handled .last;
+    channel = handled .channel;
+    editions = furtherOn (handled .further) (kept .editions);
+  }
 
--- as `open_channel` returned it
+-- as `open_channel` returned it: its one edition has every setting unset
 abbrev pub opening : Opened → Kept
-opening o = record { last = NoneSeen; channel = o .channel }
+opening o = record { last = NoneSeen; channel = o .channel; editions = unset ∷ [] }
 
 -- Demand 3: for every list of calls on a channel as `open_channel` returned it, with any outputs
 abbrev pub Demand3OfTheCode : Type 0

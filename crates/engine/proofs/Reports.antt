@@ -1,24 +1,28 @@
 -- What an engine report comes to, one law for each way out. Assumes nothing.
 use Prim.Native.Nat.{ℕ, suc, _≤_, _<_}
 use mathlib.Core.Path.{_≡_, refl, sym, ap, ap₂, _∙_}
-use mathlib.Core.Bool.{Bool, true, false, not, Bool·beq, false≢true}
+use mathlib.Core.Bool.{Bool, true, false, _&&_, not, Bool·beq, false≢true}
 use mathlib.Core.List.{List, [], _∷_, append-nil}
 use lib.Ieee.{Float}
 use lib.ListN.{length}
-use borrow.Author.Tests.{le-leb, lt-leb}
+use borrow.Author.Tests.{le-leb, lt-leb, leb-true}
+use native.Mathlib.Nat.{le-trans}
 use Rattle.lists.specs.Lists.{isEmpty}
+use Rattle.lists.proofs.Tests.{both}
 use Rattle.answer.specs.Written.{written, writtenAll}
 use Rattle.answer.specs.Answers.{causeNames, complete, completes}
 use Rattle.answer.specs.declared.Kind.{Kind}
 use Rattle.ledger.specs.Ledger.{Turn}
-use Rattle.synth.specs.Channel.{View, kind, withQueue, ids, isBusy, sound}
+use Rattle.synth.specs.Kinds.{most, isStateOf}
+use Rattle.synth.specs.Channel.{View, kind, wellNamed, withQueue, ids, isBusy, idleUnseen, shaped, sound}
 use Rattle.synth.specs.Calls.{report, Reply, refuse, deliver, awaits, isNoCause, isNoScore, reported, ending, call}
 use Rattle.synth.specs.States.{Outcome, whileAny, isMatch, endsOne, recognized, completed}
 use Rattle.synth.specs.declared.Entry.{Entry}
 use Rattle.synth.specs.declared.State.{State}
 use Rattle.synth.specs.declared.State.the-variants.{Idle, Speaking, Paused, Recognizing, Recognized}
-use Rattle.synth.proofs.Channels.{sound-facts}
+use Rattle.synth.proofs.Channels.{sound-facts, most-16}
 use Rattle.queue.specs.Queue.{first, marked}
+use Rattle.channel.proofs.Parts.{shape-few}
 use Rattle.queue.proofs.Masks.{all-end, none-remains, active-ends, others-remain}
 use Rattle.engine.specs.Endings.{endsMarked}
 
@@ -62,6 +66,10 @@ module _ (v : View) (k : Kind) (of : kind v ≡ k) (cause : ℕ) (score : Float)
           told false false true has n s
           ∙ ap (λ (l : List Entry). ending l v cause score room) q
           ∙ ap (λ (k : Kind). deliver v 0 room (completed k e queue v cause score)) of
+
+-- the queue of a channel of that shape is within its array
+pub queue-within : (v : View) → shaped v ≡ true → length (v .queue) ≤ 16
+queue-within v e = le-trans (shape-few v e) (most-16 (kind v))
 
 -- a channel from which a report is awaited has an active one
 pub record Active (v : View) : Type 0 where

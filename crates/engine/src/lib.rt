@@ -4,10 +4,11 @@ ghost use mathlib.Core.Bool.{true};
 ghost use mathlib.Core.List.{List, _∷_};
 ghost use lib.ListN.{length};
 ghost use Rattle.answer.specs.declared.Kind.{Kind};
-ghost use Rattle.synth.specs.Channel.{sound};
+ghost use Rattle.synth.specs.Channel.{shaped, sound};
 ghost use Rattle.synth.specs.Calls.{report as reportOf, deliver as delivered};
 ghost use Rattle.synth.specs.States.{endsOne, recognized, completed};
 ghost use Rattle.synth.specs.declared.Entry.{Entry};
+ghost use Rattle.synth.specs.declared.Edition.{Edition};
 ghost use Rattle.synth.specs.declared.State.the-variants.{Idle, Speaking};
 ghost use Rattle.queue.specs.Queue.{listOf};
 ghost use Rattle.channel.specs.Channel.{view};
@@ -22,10 +23,11 @@ fn end_speech(
     cause: u32,
     out: &mut [u8],
 ) -> calls::Handled
-    requires { ⌜ sound (view last c) ≡ true ⌝ }
-    ensures { λ r. ⌜ ((e : Entry) (queue : List Entry) → listOf (c .queue) ≡ e ∷ queue
-        → Leaves last c (delivered (view last c) 0 (length (now (out .entry)))
-        (endsOne Kind.Synthesizer Idle Speaking e queue (view last c) cause)) (now (out .entry)) r (now (out .exit))) ⌝ }
+    requires { ⌜ ((es : List Edition) → shaped (view last c es) ≡ true) ⌝ }
+    ensures { λ r. ⌜ ((es : List Edition) (e : Entry) (queue : List Entry) → listOf (c .queue) ≡ e ∷ queue
+        → Leaves last c es (delivered (view last c es) 0 (length (now (out .entry)))
+        (endsOne Kind.Synthesizer Idle Speaking e queue (view last c es) cause)) (now (out .entry)) r
+        (now (out .exit))) ⌝ }
 {
     let active = queue::active(c.queue);
     let name = c.name;
@@ -43,6 +45,7 @@ fn end_speech(
                 written: sent,
                 last,
                 channel: next,
+                further: settings::Further::Nothing,
             }
         }
     }
@@ -56,10 +59,10 @@ fn end_recognitions(
     cause: u32,
     out: &mut [u8],
 ) -> calls::Handled
-    requires { ⌜ sound (view last c) ≡ true ⌝ }
-    ensures { λ r. ⌜ Leaves last c
-        (delivered (view last c) 0 (length (now (out .entry))) (endsMarked mask (view last c) cause))
-        (now (out .entry)) r (now (out .exit)) ⌝ }
+    requires { ⌜ ((es : List Edition) → shaped (view last c es) ≡ true) ⌝ }
+    ensures { λ r. ⌜ ((es : List Edition) → Leaves last c es
+        (delivered (view last c es) 0 (length (now (out .entry))) (endsMarked mask (view last c es) cause))
+        (now (out .entry)) r (now (out .exit))) ⌝ }
 {
     let ended = queue::end(c.queue, mask);
     let listed = ended.listed;
@@ -79,6 +82,7 @@ fn end_recognitions(
                 written: sent,
                 last,
                 channel: next,
+                further: settings::Further::Nothing,
             }
         }
     }
@@ -91,10 +95,10 @@ fn end_recognized(
     cause: u32,
     out: &mut [u8],
 ) -> calls::Handled
-    requires { ⌜ sound (view last c) ≡ true ⌝ }
-    ensures { λ r. ⌜ ((e : Entry) (queue : List Entry) → listOf (c .queue) ≡ e ∷ queue
-        → Leaves last c (delivered (view last c) 0 (length (now (out .entry)))
-        (recognized e queue (view last c) cause)) (now (out .entry)) r (now (out .exit))) ⌝ }
+    requires { ⌜ ((es : List Edition) → shaped (view last c es) ≡ true) ⌝ }
+    ensures { λ r. ⌜ ((es : List Edition) (e : Entry) (queue : List Entry) → listOf (c .queue) ≡ e ∷ queue
+        → Leaves last c es (delivered (view last c es) 0 (length (now (out .entry)))
+        (recognized e queue (view last c es) cause)) (now (out .entry)) r (now (out .exit))) ⌝ }
 {
     if scores::is_match(cause) {
         return end_recognitions(last, c, queue::ACTIVE, cause, out);
@@ -111,10 +115,10 @@ fn complete(
     score: f32,
     out: &mut [u8],
 ) -> calls::Handled
-    requires { ⌜ sound (view last c) ≡ true ⌝ }
-    ensures { λ r. ⌜ ((e : Entry) (queue : List Entry) → listOf (c .queue) ≡ e ∷ queue
-        → Leaves last c (delivered (view last c) 0 (length (now (out .entry)))
-        (completed kind e queue (view last c) cause score)) (now (out .entry)) r (now (out .exit))) ⌝ }
+    requires { ⌜ ((es : List Edition) → shaped (view last c es) ≡ true) ⌝ }
+    ensures { λ r. ⌜ ((es : List Edition) (e : Entry) (queue : List Entry) → listOf (c .queue) ≡ e ∷ queue
+        → Leaves last c es (delivered (view last c es) 0 (length (now (out .entry)))
+        (completed kind e queue (view last c es) cause score)) (now (out .entry)) r (now (out .exit))) ⌝ }
 {
     match kind {
         answer::Kind::Synthesizer => end_speech(last, c, cause, out),
@@ -126,7 +130,8 @@ fn complete(
     }
 }
 
-// An engine report: 21 before all, then 9, then 11, then 8, then 7.
+// An engine report: 21 before all, then 9, then 11, then 8, then 7. The editions are not handed in: where they are none
+// of a channel's, it is the caller who refuses with 21.
 pub fn report(
     last: synth::LastId,
     c: channel::Channel,
@@ -134,9 +139,10 @@ pub fn report(
     score: f32,
     out: &mut [u8],
 ) -> calls::Handled
-    ensures { λ r. ⌜ Promise last c (reportOf cause score) (now (out .entry)) r (now (out .exit)) ⌝ }
+    ensures { λ r. ⌜ ((es : List Edition) → sound (view last c es) ≡ shaped (view last c es)
+        → Promise last c es (reportOf cause score) (now (out .entry)) r (now (out .exit))) ⌝ }
 {
-    if !channel::is_sound(last, c) { // before the cause is looked at
+    if !channel::is_shaped(last, c) { // before the cause is looked at
         return calls::refused(last, c, 21, 0);
     }
     let kind = channel::kind(c);

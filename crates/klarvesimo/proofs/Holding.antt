@@ -33,7 +33,7 @@ count-again (a ∷ l) x = refl
 
 module _ (ws out count : List ℕ) (l : Loaded) (is : Loads ws l) where
   abbrev v : View
-  v = view (l .last) (l .channel)
+  v = view (l .last) (l .channel) (is .editions)
 
   -- numbers that are no sound channel
   unsound : isSound (viewOf ws) ≡ false → record { number = 21; count = 0; ids = out } ≡ heldFace ws out

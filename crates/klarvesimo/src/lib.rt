@@ -13,7 +13,7 @@ pub extern "C" fn klarvesimo_open(channel: &mut [u64; 89], name: &[u8]) -> u32
 {
     let o = channel::open_channel(name);
     let c = o.channel;
-    channelnumbers::save(synth::LastId::NoneSeen, c, channel);
+    channelnumbers::save_opened(c, channel);
     o.number
 }
 
@@ -33,7 +33,8 @@ pub extern "C" fn klarvesimo_handle(
     let l = loading::load(channel);
     let last = l.last;
     let c = l.channel;
-    let r = client::handle(last, c, s, out);
+    let set = l.set;
+    let r = client::handle(last, c, set, s, out);
     counts[0] = r.consumed as u64;
     counts[1] = r.written as u64;
     if r.number != 0 {
@@ -41,7 +42,8 @@ pub extern "C" fn klarvesimo_handle(
     }
     let seen = r.last;
     let next = r.channel;
-    channelnumbers::save(seen, next, channel);
+    let further = r.further;
+    channelnumbers::save_after(seen, next, further, channel);
     0
 }
 
@@ -69,7 +71,8 @@ pub extern "C" fn klarvesimo_report(
     }
     let seen = r.last;
     let after = r.channel;
-    channelnumbers::save(seen, after, channel);
+    let further = r.further;
+    channelnumbers::save_after(seen, after, further, channel);
     0
 }
 
@@ -81,13 +84,16 @@ pub extern "C" fn klarvesimo_back(channel: &mut [u64; 89], number: u32) -> u32
     let l = loading::load(channel);
     let last = l.last;
     let c = l.channel;
-    let r = back::go_back(last, c, number);
+    let name = c.name;
+    let found = loading::edition_at(channelnames::kind_by(name), number, channel);
+    let r = back::go_back(last, c, found);
     if r.number != 0 {
         return r.number;
     }
     let seen = r.last;
     let after = r.channel;
-    channelnumbers::save(seen, after, channel);
+    let further = r.further;
+    channelnumbers::save_after(seen, after, further, channel);
     0
 }
 
@@ -114,7 +120,7 @@ pub extern "C" fn klarvesimo_held(channel: &[u64; 89], ids: &mut [u64], count: &
     let l = loading::load(channel);
     let last = l.last;
     let c = l.channel;
-    if !channel::is_sound(last, c) {
+    if !channel::is_shaped(last, c) {
         return 21;
     }
     let q = c.queue;

@@ -3,7 +3,6 @@
 ghost use mathlib.Core.Path.{_≡_};
 ghost use Prim.Native.Nat.{_+_, _-_, _*_, _^_, _≤_, _<_};
 ghost use Rattle.synth.specs.Levels.{single};
-ghost use Rattle.synth.specs.Settings.{isKept};
 ghost use Rattle.levels.specs.Reading.{kept, levelFound};
 ghost use Rattle.levels.specs.Steps.{isFirst, levelBy};
 
@@ -100,20 +99,4 @@ pub fn single(millionths: u32) -> f32
         return 1.0;
     }
     (millionths as f32) / (ONE as f32)
-}
-
-// Whether a level is one that reading can give: its number is that of its millionths, bit for bit. No number has no
-// bits to compare.
-pub fn is_kept(l: synth::Level) -> bool
-    ensures { λ r. ⌜ r ≡ isKept l ⌝ }
-{
-    let millionths = l.millionths;
-    if ONE < millionths {
-        return false;
-    }
-    let x = l.single;
-    if x != x {
-        return false;
-    }
-    f32::to_bits(x) == f32::to_bits(single(millionths))
 }

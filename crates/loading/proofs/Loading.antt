@@ -19,7 +19,8 @@ use Rattle.lists.proofs.Scans.{all-append, all-of}
 use Rattle.octets.specs.Octets.{within, isValue}
 use Rattle.answer.specs.declared.Kind.{Kind}
 use Rattle.synth.specs.Kinds.{most}
-use Rattle.synth.specs.Channel.{View, kind, ids, firstAbove, areLevels, areEditions, sound}
+use Rattle.synth.specs.Settings.{newest}
+use Rattle.synth.specs.Channel.{View, kind, ids, firstAbove, areLevels, areEditions, shaped, sound}
 use Rattle.synth.specs.declared.State.{State}
 use Rattle.synth.specs.declared.State.the-variants.{Recognized}
 use Rattle.synth.specs.declared.Entry.{Entry}
@@ -33,12 +34,12 @@ use Rattle.channelnames.specs.Names.{nameOf, kindBy}
 use Rattle.channelnames.proofs.Fits.{name-fits}
 use Rattle.channelnames.proofs.Names.{within as within-name}
 use Rattle.channelnames.proofs.Tails.{named-kind}
-use Rattle.settings.specs.Kept.{editionsOf}
 use Rattle.channel.specs.Channel.{view}
 use Rattle.channel.specs.declared.Channel.{Channel}
+use Rattle.channel.proofs.Parts.{shape-named, shape-few, unshaped, shaped-sound}
 use Rattle.channelnumbers.specs.Numbers.{stateAt, lastAt, entryAt, leveled, numbersAt, entriesAt, editionsIn, nameIn, viewWith, viewAt, viewOf, isSound, isEntry, isByte}
 use Rattle.channelnumbers.specs.Steps.{thresholdCount}
-use Rattle.channelnumbers.proofs.Theorems.LoadSaved.{sound-few, sound-four}
+use Rattle.channelnumbers.proofs.Theorems.LoadSaved.{sound-few}
 use Rattle.loading.specs.Loading.{Loads}
 use Rattle.loading.specs.Steps.{frontFits, entriesFit, levelsFit, queueFits, nameFits, editionsKept, orNone, LoadsPart}
 
@@ -178,12 +179,19 @@ pub record Front (kind : Kind) (ws : List ℕ) : Type 0 where
   pub state : getD ws 0 0 ≤ 4
   pub last : getD ws 1 0 ≤ 4294967296
   pub few : getD ws 2 0 ≤ most kind
+  pub editions : editionsKept kind (editionsIn kind ws) ≡ true
 
 front-facts : (kind : Kind) (ws : List ℕ) → frontFits kind ws ≡ true → Front kind ws
 front-facts kind ws e =
-    let p = both (leb (getD ws 0 0) 4 && leb (getD ws 1 0) 4294967296) (leb (getD ws 2 0) (most kind)) e in
+    let o = both (leb (getD ws 0 0) 4 && leb (getD ws 1 0) 4294967296 && leb (getD ws 2 0) (most kind)) (editionsKept kind (editionsIn kind ws)) e in
+    let p = both (leb (getD ws 0 0) 4 && leb (getD ws 1 0) 4294967296) (leb (getD ws 2 0) (most kind)) (o .0) in
     let q = both (leb (getD ws 0 0) 4) (leb (getD ws 1 0) 4294967296) (p .0) in
-    record { state = leb-true (getD ws 0 0) 4 (q .0); last = leb-true (getD ws 1 0) 4294967296 (q .1); few = leb-true (getD ws 2 0) (most kind) (p .1) }
+    record {
+      state = leb-true (getD ws 0 0) 4 (q .0);
+      last = leb-true (getD ws 1 0) 4294967296 (q .1);
+      few = leb-true (getD ws 2 0) (most kind) (p .1);
+      editions = o .1;
+    }
 
 front-few : (kind : Kind) (ws : List ℕ) → frontFits kind ws ≡ true → getD ws 2 0 ≤ 16
 front-few kind ws e = le-trans (front-facts kind ws e .few) (most-16 kind)
@@ -400,7 +408,6 @@ module _ (ws : List ℕ) where
   record Fit : Type 0 where
     queue : queueFits (kindBy named) ws ≡ true
     name : nameFits ws ≡ true
-    editions : editionsKept (kindBy named) made ≡ true
 
   sound-fits : isSound (viewOf ws) ≡ true → Fit
   unfolding viewOf
@@ -418,10 +425,10 @@ module _ (ws : List ℕ) where
           let small : Small (ids (map entryAt (numbersAt 4 count ws))) = rw (entries-ids count ws kind) at (small-by (ids (entriesAt kind count ws)) (held-small f)) in
           let entries : all isEntry (numbersAt 4 count ws) ≡ true = small-entries (numbersAt 4 count ws) small in
           let bytes : all isByte named ≡ true = all-of isValue isByte value-byte named (S.name-fits named (f .named) .values) in
+          let kept : editionsKept kind made ≡ true = ap (editionsKept kind) is ∙ ap (λ (k : Kind). areEditions k es) (sym (named-kind named (f .named))) ∙ f .editions-fit in
           record {
-            queue = queue-fits kind (rw (le-leb (getD ws 0 0) 4 within, le-leb (getD ws 1 0) 4294967296 last, le-leb count (most kind) few, entries)) (f .thresholds-fit);
+            queue = queue-fits kind (rw (le-leb (getD ws 0 0) 4 within, le-leb (getD ws 1 0) 4294967296 last, le-leb count (most kind) few, kept, entries)) (f .thresholds-fit);
             name = rw (le-leb (getD ws 3 0) 44 size, bytes);
-            editions = ap (editionsKept kind) is ∙ ap (λ (k : Kind). areEditions k es) (sym (named-kind named (f .named))) ∙ f .editions-fit;
           }
 
       go : (o : Option State) → stateAt (getD ws 0 0) ≡ o → (es : Option (List Edition)) → made ≡ es → isSound (viewAt ws o es) ≡ true → Fit
@@ -429,43 +436,74 @@ module _ (ws : List ℕ) where
       go (some state) p none q e = absurd (false≢true e)
       go (some state) p (some es) q e = told state es (state-within (getD ws 0 0) state p) q e
 
+  told-editions : (o : Option (List Edition)) → editionsKept (kindBy named) o ≡ true
+      → (o ≡ some (orNone o)) × (areEditions (kindBy named) (orNone o) ≡ true)
+  told-editions none e = absurd (false≢true e)
+  told-editions (some es) e = (refl, e)
+
   -- the parts are those of the channel that the numbers are, or numbers and channel are not sound
-  module _ (last : LastId) (c : Channel)
+  module _ (last : LastId) (c : Channel) (set : Edition)
       (n : LoadsPart (nameFits ws) named 44 (nameOf (c .name)))
       (q : LoadsPart (queueFits (kindBy (nameOf (c .name))) ws) (entriesAt (kindBy (nameOf (c .name))) count ws) 16 (listOf (c .queue)))
       (s : getD ws 0 0 ≤ 4 → stateAt (getD ws 0 0) ≡ some (c .state)) (l : getD ws 1 0 ≤ 4294967296 → last ≡ lastAt (getD ws 1 0))
-      (m : LoadsPart (editionsKept (kindBy (nameOf (c .name))) (editionsIn (kindBy (nameOf (c .name))) ws))
-      (orNone (editionsIn (kindBy (nameOf (c .name))) ws)) 4 (editionsOf (c .editions))) where
-    neither : (Fit → ⊥) → (sound (view last c) ≡ true → ⊥) → Loads ws (record { last = last; channel = c })
+      (m : editionsKept (kindBy (nameOf (c .name))) (editionsIn (kindBy (nameOf (c .name))) ws) ≡ true
+      → newest (orNone (editionsIn (kindBy (nameOf (c .name))) ws)) ≡ set) where
+    abbrev Loading : Type 0
+    Loading = Loads ws (record { last = last; channel = c; set = set })
+
+    -- whatever the editions are
+    neither : (Fit → ⊥) → (shaped (view last c (set ∷ [])) ≡ true → ⊥) → Loading
     neither e f =
+        let v : View = view last c (set ∷ []) in
         let none : isSound (viewOf ws) ≡ false = refuted (isSound (viewOf ws)) (λ z. e (sound-fits z)) in
-        record { soundness = none ∙ sym (refuted (sound (view last c)) f); same = λ z. absurd (false≢true (sym none ∙ z)) }
+        let un : shaped v ≡ false = refuted (shaped v) f in
+        record {
+          editions = set ∷ [];
+          set = refl;
+          fit = unshaped v un ∙ sym un;
+          soundness = none ∙ sym (unshaped v un);
+          same = λ z. absurd (false≢true (sym none ∙ z));
+          stand = λ z. absurd (false≢true (sym none ∙ z));
+        }
 
-    told-editions : (o : Option (List Edition)) → editionsKept (kindBy named) o ≡ true → o ≡ some (orNone o)
-    told-editions none e = absurd (false≢true e)
-    told-editions (some es) e = refl
-
-    pub loads : Loads ws (record { last = last; channel = c })
-    unfolding viewOf
-    loads = go (nameFits ws) refl (queueFits (kindBy named) ws) refl (editionsKept (kindBy named) made) refl
+    -- editions that fit: soundness is the shape
+    by-shape : (es : List Edition) → areEditions (kindBy (nameOf (c .name))) es ≡ true
+        → sound (view last c es) ≡ shaped (view last c es)
+    by-shape es h = go (shaped (view last c es)) refl
       where
-        go : (a : Bool) → nameFits ws ≡ a → (b : Bool) → queueFits (kindBy named) ws ≡ b → (d : Bool) → editionsKept (kindBy named) made ≡ d
-            → Loads ws (record { last = last; channel = c })
-        go false f b e d g = neither (λ z. false≢true (sym f ∙ z .name))
-            (λ z. omega (arith, name-fits (nameOf (c .name)) (sound-facts (view last c) z .named), n .unfit f))
-        go true f false e d g =
+        go : (b : Bool) → shaped (view last c es) ≡ b → sound (view last c es) ≡ shaped (view last c es)
+        go false e = unshaped (view last c es) e ∙ sym e
+        go true e =
+            sym (shaped-sound last c es e)
+            ∙ ap (λ (k : Kind). areEditions k es) (named-kind (nameOf (c .name)) (shape-named (view last c es) e)) ∙ h ∙ sym e
+
+    pub loads : Loading
+    unfolding viewOf
+    loads = go (nameFits ws) refl (queueFits (kindBy named) ws) refl
+      where
+        go : (a : Bool) → nameFits ws ≡ a → (b : Bool) → queueFits (kindBy named) ws ≡ b → Loading
+        go false f b e = neither (λ z. false≢true (sym f ∙ z .name))
+            (λ z. omega (arith, name-fits (nameOf (c .name)) (shape-named (view last c (set ∷ [])) z), n .unfit f))
+        go true f false e =
             let many : 16 < length (listOf (c .queue)) = rw (n .fit f) at q .unfit e in
             neither (λ z. false≢true (sym e ∙ z .queue))
-            (λ z. omega (arith, sound-facts (view last c) z .few, most-16 (kind (view last c)), many))
-        go true f true e false g =
-            let more : 4 < length (editionsOf (c .editions)) = rw (n .fit f) at m .unfit g in
-            neither (λ z. false≢true (sym g ∙ z .editions)) (λ z. omega (arith, sound-four (view last c) z, more))
-        go true f true e true g =
+            (λ z. omega (arith, shape-few (view last c (set ∷ [])) z, most-16 (kind (view last c (set ∷ []))), many))
+        go true f true e =
             let p = fits-entries (kindBy named) e in
             let front = front-facts (kindBy named) ws (both (frontFits (kindBy named) ws) (all isEntry (numbersAt 4 count ws)) (p .0) .0) in
             let listed : listOf (c .queue) ≡ entriesAt (kindBy named) count ws = rw (n .fit f) at q .fit e in
-            let kept : editionsOf (c .editions) ≡ orNone made = rw (n .fit f) at m .fit g in
-            let same : view last c ≡ viewWith ws (c .state) (orNone made) =
-            λ i. record { name = n .fit f i; state = c .state; queue = listed i; last = l (front .last) i; editions = kept i } in
-            let is : viewOf ws ≡ some (view last c) = ap₂ (viewAt ws) (s (front .state)) (told-editions made g) ∙ ap some (sym same) in
-            record { soundness = ap isSound is; same = λ z. is }
+            let told = told-editions made (front .editions) in
+            let es : List Edition = orNone made in
+            let same : view last c es ≡ viewWith ws (c .state) es =
+            λ i. record { name = n .fit f i; state = c .state; queue = listed i; last = l (front .last) i; editions = es } in
+            let is : viewOf ws ≡ some (view last c es) = ap₂ (viewAt ws) (s (front .state)) (told .0) ∙ ap some (sym same) in
+            let newest-is : newest es ≡ set = rw (n .fit f) at m (front .editions) in
+            let own : areEditions (kindBy (nameOf (c .name))) es ≡ true = ap (λ (l : List ℕ). areEditions (kindBy l) es) (n .fit f) ∙ told .1 in
+            record {
+              editions = es;
+              set = newest-is;
+              fit = by-shape es own;
+              soundness = ap isSound is;
+              same = λ z. is;
+              stand = λ z. ap (λ (l : List ℕ). editionsIn (kindBy l) ws) (n .fit f) ∙ told .0;
+            }

@@ -1,30 +1,31 @@
--- Settings and editions by their numbers: which fit, and one turn of the loop that loads them. Assumes nothing.
+-- Settings and editions by their numbers: which fit, and one turn of the loop that tests them. Assumes nothing.
 use Prim.Native.Nat.{ℕ, zero, suc, _+_, _-_, _*_, _≤_, _<_}
 use mathlib.Core.Path.{_≡_, refl, sym, ap, ap₂, _∙_}
 use mathlib.Core.Bool.{Bool, true, false, _&&_, false≢true, cond}
 use mathlib.Core.Option.{Option, none, some}
-use mathlib.Core.List.{List, [], _∷_, append-nil}
+use mathlib.Core.List.{List, [], _∷_}
 use native.Mathlib.Nat.{le-refl}
 use native.Mathlib.Omega.{arith}
 use lib.Dec.{eqb, leb, ltb}
 use lib.Ieee.{binary32, toBits}
-use lib.ListN.{length, take, getD, set, length-append, length-take, length-replicate}
-use lib.Seq.{length-take-le, getD-set-same, getD-set-other}
+use lib.ListN.{length, getD}
 use borrow.Author.Tests.{leb-true, leb-false, lt-ltb, le-ltb, eq-eqb, ne-eqb, eqb-true, eqb-false}
 use Rattle.lists.specs.Lists.{all}
-use Rattle.lists.proofs.Tests.{both}
+use Rattle.lists.proofs.Tests.{both, refuted}
 use Rattle.answer.specs.declared.Kind.{Kind}
 use Rattle.synth.specs.Levels.{single}
-use Rattle.synth.specs.Settings.{Sort, flag, millis, level, killOnBargeIn, fetchTimeout, noInputTimeout, confidenceThreshold, sensitivityLevel, settings, edition, unset, isKept, keptAs, isEditionOf}
+use Rattle.synth.specs.Settings.{Sort, flag, millis, level, killOnBargeIn, fetchTimeout, noInputTimeout, confidenceThreshold, sensitivityLevel, settings, edition, unset, isKept, keptAs, isEditionOf, newest, editionAt}
 use Rattle.synth.specs.Channel.{areEditions}
 use Rattle.synth.specs.declared.Level.{Level}
 use Rattle.synth.specs.declared.Setting.{Setting}
 use Rattle.synth.specs.declared.Edition.{Edition}
 use Rattle.synth.proofs.Levels.{kept-most}
-use Rattle.settings.specs.Kept.{editionsOf}
+use Rattle.synth.proofs.Theorems.Editions.{not-kept}
+use Rattle.settings.specs.Kept.{asFurther}
+use Rattle.settings.specs.declared.Further.{Further}
 use Rattle.channelnumbers.specs.Numbers.{flagAt, settingAt, withSetting, editionFrom, joining, editionsFrom, editionsIn}
-use Rattle.loading.specs.Steps.{isOwn, settingKept, editionKept, editionsKept, orNone, Read, LoadsPart}
-use Rattle.loading.proofs.Loading.{regroup, part-fits, part-unfit}
+use Rattle.loading.specs.Steps.{isOwn, settingKept, editionKept, editionsKept, orNone, Read}
+use Rattle.loading.proofs.Loading.{regroup}
 
 -- ---- a setting
 
@@ -245,39 +246,42 @@ module _ (kind : Kind) (ws : List ℕ) where
       ap (λ (p : ℕ). editionKept kind (from p)) (later-place at k)
       ∙ each-kept (at + 6) n k (omega arith) (first-kept (from at) (editionsFrom kind (at + 6) n ws) h .1)
 
-  -- what one turn after the other has read
-  abbrev IsRead : ℕ → Edition → Type 0
-  IsRead at e = (from at ≡ some e) × (isEditionOf kind e ≡ true)
+  all-kept : (at m : ℕ) → ((k : ℕ) → k < m → editionKept kind (from (at + k * 6)) ≡ true) → allKept (editionsFrom kind at m ws) ≡ true
+  all-kept at zero h = refl
+  all-kept at (suc m) h =
+      let first : editionKept kind (from at) ≡ true = rw (first-place at) at (h 0 (omega arith)) in
+      joined (from at) (editionsFrom kind (at + 6) m ws) first
+      (all-kept (at + 6) m (λ k l. rw (later-place at k) at (h (suc k) (omega arith))))
+    where
+      joined : (o : Option Edition) (es : Option (List Edition)) → editionKept kind o ≡ true → allKept es ≡ true → allKept (joining o es) ≡ true
+      joined none es e f = absurd (false≢true e)
+      joined (some x) none e f = absurd (false≢true f)
+      joined (some x) (some es) e f = rw (e, f)
 
-  collected : (at n : ℕ) (list : List Edition) → n ≤ length list → ((k : ℕ) → k < n → IsRead (at + k * 6) (getD list k unset))
-      → (editionsFrom kind at n ws ≡ some (take n list)) × (all (isEditionOf kind) (take n list) ≡ true)
-  collected at zero list l h = (refl, refl)
-  collected at (suc n) [] l h = absurd (omega arith)
-  collected at (suc n) (e ∷ list) l h =
-      let first : IsRead at e = rw (first-place at) at (h 0 (omega arith)) in
-      let rest = collected (at + 6) n list (omega arith) (λ k m. rw (later-place at k) at (h (suc k) (omega arith))) in
-      (ap₂ joining (first .0) (rest .0), rw (first .1, rest .1))
+  kept-by : (m : ℕ) (o : Option (List Edition)) → Counted m o → (leb 1 m && leb m 4) ≡ true → allKept o ≡ true → editionsKept kind o ≡ true
+  unfolding areEditions
+  kept-by m none c f a = absurd (false≢true a)
+  kept-by m (some es) c f a = rw (c, f, a)
 
   abbrev n : ℕ
   n = getD ws 64 0
 
-  pub record EditionsRead (list : List Edition) (fits : Bool) (i : ℕ) : Type 0 where
+  -- what one turn after the other has tested
+  pub record EditionsTested (fits : Bool) (i : ℕ) : Type 0 where
     pub few : fits ≡ true → (leb 1 n && leb n 4) ≡ true
-    pub fit : fits ≡ true → (k : ℕ) → k < i → IsRead (65 + k * 6) (getD list k unset)
+    pub fit : fits ≡ true → (k : ℕ) → k < i → editionKept kind (from (65 + k * 6)) ≡ true
     pub unfit : fits ≡ false → editionsKept kind (editionsIn kind ws) ≡ true → ⊥
 
-  pub none-read : (list : List Edition) {fits : Bool} → fits ≡ (leb 1 n && leb n 4) → EditionsRead list fits 0
-  none-read list e = record {
+  pub none-tested : {fits : Bool} → fits ≡ (leb 1 n && leb n 4) → EditionsTested fits 0
+  none-tested e = record {
     few = λ z. sym e ∙ z;
     fit = λ z k l. absurd (omega arith);
     unfit = λ z h. false≢true (sym z ∙ e ∙ kept-facts n (editionsIn kind ws) (counted 65 n) h .0);
   }
 
-  pub one-read : (list : List Edition) (fits after : Bool) (i : ℕ) (e : Edition) → i < n → i < length list
-      → after ≡ (fits && editionKept kind (from (65 + i * 6)))
-      → (editionKept kind (from (65 + i * 6)) ≡ true → from (65 + i * 6) ≡ some e)
-      → EditionsRead list fits i → EditionsRead (set list i e) after (i + 1)
-  one-read list fits after i e l m f g s = record {
+  pub one-tested : (fits after : Bool) (i : ℕ) → i < n → after ≡ (fits && editionKept kind (from (65 + i * 6)))
+      → EditionsTested fits i → EditionsTested after (i + 1)
+  one-tested fits after i l f s = record {
     few = λ z. s .few (passed z .0);
     fit = λ z k h. placed k h z (eqb k i) refl;
     unfit = λ z h. stopped fits refl z h;
@@ -286,20 +290,77 @@ module _ (kind : Kind) (ws : List ℕ) where
       passed : after ≡ true → (fits ≡ true) × (editionKept kind (from (65 + i * 6)) ≡ true)
       passed z = both fits (editionKept kind (from (65 + i * 6))) (sym f ∙ z)
 
-      here : after ≡ true → IsRead (65 + i * 6) e
-      here z = let q = g (passed z .1) in (q, sym (ap (editionKept kind) q) ∙ passed z .1)
-
-      placed : (k : ℕ) → k < i + 1 → after ≡ true → (b : Bool) → eqb k i ≡ b → IsRead (65 + k * 6) (getD (set list i e) k unset)
-      placed k h z true t = rw (eqb-true k i t, getD-set-same list i e unset m) (here z)
-      placed k h z false t =
-          let other = eqb-false k i t in
-          rw (getD-set-other list i k e unset other) (s .fit (passed z .0) k (omega arith))
+      placed : (k : ℕ) → k < i + 1 → after ≡ true → (b : Bool) → eqb k i ≡ b → editionKept kind (from (65 + k * 6)) ≡ true
+      placed k h z true t = rw (eqb-true k i t) (passed z .1)
+      placed k h z false t = let other = eqb-false k i t in s .fit (passed z .0) k (omega arith)
 
       stopped : (b : Bool) → fits ≡ b → after ≡ false → editionsKept kind (editionsIn kind ws) ≡ true → ⊥
       stopped false q z h = s .unfit q h
       stopped true q z h =
           let kept = each-kept 65 n i l (kept-facts n (editionsIn kind ws) (counted 65 n) h .1) in
           false≢true (sym z ∙ f ∙ ap₂ _&&_ q kept)
+
+  pub all-tested : (all-fit : Bool) {fits : Bool} {m : ℕ} → fits ≡ (leb 1 n && leb n 4) → m ≡ cond fits n 0
+      → EditionsTested all-fit m → all-fit ≡ editionsKept kind (editionsIn kind ws)
+  all-tested false f e s = sym (refuted (editionsKept kind (editionsIn kind ws)) (s .unfit refl))
+  all-tested true f e s =
+      let m = e ∙ ap (λ (b : Bool). cond b n 0) (f ∙ s .few refl) in
+      sym (kept-by n (editionsIn kind ws) (counted 65 n) (s .few refl) (all-kept 65 n (rw m at (s .fit refl))))
+
+  -- the newest of them
+  pub first-set : {e : Edition} → (editionKept kind (from 65) ≡ true → from 65 ≡ some e)
+      → editionsKept kind (editionsIn kind ws) ≡ true → newest (orNone (editionsIn kind ws)) ≡ e
+  first-set {e} q h =
+      let f = kept-facts n (editionsIn kind ws) (counted 65 n) h in
+      go n (leb-true 1 n (both (leb 1 n) (leb n 4) (f .0) .0)) (f .1)
+    where
+      joined : (o : Option Edition) → o ≡ some e → (es : Option (List Edition)) → allKept (joining o es) ≡ true → newest (orNone (joining o es)) ≡ e
+      joined none r es a = absurd (false≢true a)
+      joined (some x) r none a = absurd (false≢true a)
+      joined (some x) r (some es) a = let p : x ≡ e = cc in p
+
+      go : (m : ℕ) → 1 ≤ m → allKept (editionsFrom kind 65 m ws) ≡ true → newest (orNone (editionsFrom kind 65 m ws)) ≡ e
+      go zero l a = absurd (omega arith)
+      go (suc m) l a =
+          let k = first-kept (from 65) (editionsFrom kind (65 + 6) m ws) a in
+          joined (from 65) (q (k .0)) (editionsFrom kind (65 + 6) m ws) a
+
+  -- the one of a number
+  each-in : (at m k : ℕ) (es : List Edition) → editionsFrom kind at m ws ≡ some es → k < m → from (at + k * 6) ≡ editionAt (suc k) es
+  each-in at zero k es h l = absurd (omega arith)
+  each-in at (suc m) k es h l =
+      go (from at) refl (editionsFrom kind (at + 6) m ws) refl h k l (λ others r k l. each-in (at + 6) m k others r l)
+    where
+      go : (o : Option Edition) → from at ≡ o → (rest : Option (List Edition)) → editionsFrom kind (at + 6) m ws ≡ rest
+          → joining o rest ≡ some es → (k : ℕ) → k < suc m
+          → ((others : List Edition) → editionsFrom kind (at + 6) m ws ≡ some others → (k : ℕ) → k < m → from (at + 6 + k * 6) ≡ editionAt (suc k) others)
+          → from (at + k * 6) ≡ editionAt (suc k) es
+      go none p rest r h k l later = let d : _≡_ {A = ℕ} 0 1 = cc in absurd (omega arith)
+      go (some e) p none r h k l later = let d : _≡_ {A = ℕ} 0 1 = cc in absurd (omega arith)
+      go (some e) p (some others) r h zero l later =
+          let q : e ∷ others ≡ es = cc in
+          ap from (first-place at) ∙ p ∙ ap (λ (l : List Edition). editionAt 1 l) q
+      go (some e) p (some others) r h (suc k) l later =
+          let q : e ∷ others ≡ es = cc in
+          ap from (later-place at k) ∙ later others r k (omega arith) ∙ ap (λ (l : List Edition). editionAt (suc (suc k)) l) q
+
+  module _ (es : List Edition) (is : editionsIn kind ws ≡ some es) (h : areEditions kind es ≡ true) where
+    pub as-many : length es ≡ n
+    as-many = rw is at (counted 65 n)
+
+    -- no edition of that number
+    pub not-there : (k : ℕ) → 4 ≤ k → Further.Nothing ≡ asFurther (editionAt (suc k) es)
+    not-there k l =
+        let kept : editionsKept kind (editionsIn kind ws) ≡ true = ap (editionsKept kind) is ∙ h in
+        let four = leb-true n 4 (both (leb 1 n) (leb n 4) (kept-facts n (editionsIn kind ws) (counted 65 n) kept .0) .1) in
+        ap asFurther (sym (not-kept k es (omega (arith, four, as-many, l))))
+
+    pub numbered : (k : ℕ) → k < n → {e : Edition} → (editionKept kind (from (65 + k * 6)) ≡ true → from (65 + k * 6) ≡ some e)
+        → Further.Of e ≡ asFurther (editionAt (suc k) es)
+    numbered k l q =
+        let kept : editionsKept kind (editionsIn kind ws) ≡ true = ap (editionsKept kind) is ∙ h in
+        let here = each-kept 65 n k l (kept-facts n (editionsIn kind ws) (counted 65 n) kept .1) in
+        ap asFurther (sym (q here) ∙ each-in 65 n k es is l)
 
   -- what the count makes of it
   pub count-four : (fits : Bool) → fits ≡ (leb 1 n && leb n 4) → cond fits n 0 ≤ 4
@@ -309,34 +370,3 @@ module _ (kind : Kind) (ws : List ℕ) where
   pub count-most : (fits : Bool) → cond fits n 0 ≤ n
   count-most true = le-refl n
   count-most false = omega arith
-
-  module _ (list : List Edition) (shown : ℕ) (long : length list ≡ 4) where
-    abbrev EditionsLoaded : Type 0
-    EditionsLoaded =
-        LoadsPart (editionsKept kind (editionsIn kind ws)) (orNone (editionsIn kind ws)) 4 (editionsOf (record { list = list; count = shown }))
-
-    five : shown ≡ 5 → 4 < length (editionsOf (record { list = list; count = shown }))
-    unfolding editionsOf
-    five e = rw e (simp (length-append, length-take, length-replicate, long) (omega arith))
-
-    within : shown ≤ 4 → editionsOf (record { list = list; count = shown }) ≡ take shown list
-    unfolding editionsOf
-    within h = let z : shown - 4 ≡ 0 = omega arith in rw (z, append-nil)
-
-    all-read : shown ≡ n → EditionsRead list true n → EditionsLoaded
-    unfolding areEditions
-    all-read c s =
-        let few = s .few refl in
-        let four : n ≤ 4 = leb-true n 4 (both (leb 1 n) (leb n 4) few .1) in
-        let r = collected 65 n list (omega (arith, long)) (s .fit refl) in
-        let size : length (take n list) ≡ n = length-take-le n list (omega (arith, long)) in
-        let kept : areEditions kind (take n list) ≡ true = rw (size, few, r .1) in
-        part-fits (ap (editionsKept kind) (r .0) ∙ kept)
-        (within (omega arith) ∙ ap (λ (k : ℕ). take k list) c ∙ sym (ap orNone (r .0)))
-
-    pub editions-part : (all-fit : Bool) {fits : Bool} {m : ℕ} → fits ≡ (leb 1 n && leb n 4) → m ≡ cond fits n 0
-        → EditionsRead list all-fit m → shown ≡ cond all-fit m 5 → EditionsLoaded
-    editions-part false f e s c = part-unfit (s .unfit refl) (five c)
-    editions-part true f e s c =
-        let m = e ∙ ap (λ (b : Bool). cond b n 0) (f ∙ s .few refl) in
-        all-read (c ∙ m) (rw m at s)

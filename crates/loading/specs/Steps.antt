@@ -13,11 +13,26 @@ use Rattle.synth.specs.Settings.{Sort, keptAs, isEditionOf}
 use Rattle.synth.specs.Channel.{areEditions}
 use Rattle.synth.specs.declared.Setting.{Setting}
 use Rattle.synth.specs.declared.Edition.{Edition}
-use Rattle.channelnumbers.specs.Numbers.{numbersAt, isEntry, isByte}
+use Rattle.channelnumbers.specs.Numbers.{numbersAt, editionsIn, isEntry, isByte}
 
--- whether state, last id and count are within their ranges
+-- what can be kept
+abbrev pub settingKept : Sort → Option Setting → Bool
+settingKept sort none = false
+settingKept sort (some x) = keptAs sort x
+
+abbrev pub editionKept : Kind → Option Edition → Bool
+editionKept kind none = false
+editionKept kind (some e) = isEditionOf kind e
+
+abbrev pub editionsKept : Kind → Option (List Edition) → Bool
+editionsKept kind none = false
+editionsKept kind (some es) = areEditions kind es
+
+-- whether state, last id and count are within their ranges, and the editions those of a channel of that kind
 abbrev pub frontFits : Kind → List ℕ → Bool
-frontFits kind ws = leb (getD ws 0 0) 4 && leb (getD ws 1 0) 4294967296 && leb (getD ws 2 0) (most kind)
+frontFits kind ws =
+    leb (getD ws 0 0) 4 && leb (getD ws 1 0) 4294967296 && leb (getD ws 2 0) (most kind)
+    && editionsKept kind (editionsIn kind ws)
 
 -- and so are the entries
 abbrev pub entriesFit : Kind → List ℕ → Bool
@@ -39,22 +54,9 @@ nameFits ws = leb (getD ws 3 0) 44 && all isByte (numbersAt 20 (getD ws 3 0) ws)
 abbrev pub isOwn : ℕ → ℕ → ℕ → ℕ → Bool
 isOwn own end sort value = elim (eqb sort own) [ true ↦ ltb value end | false ↦ eqb sort 0 ]
 
--- what can be kept
-abbrev pub settingKept : Sort → Option Setting → Bool
-settingKept sort none = false
-settingKept sort (some x) = keptAs sort x
-
 -- the setting that is read where it can be kept
 abbrev pub Read : Option Setting → Setting → Type 0
 Read o x = (sort : Sort) → settingKept sort o ≡ true → o ≡ some x
-
-abbrev pub editionKept : Kind → Option Edition → Bool
-editionKept kind none = false
-editionKept kind (some e) = isEditionOf kind e
-
-abbrev pub editionsKept : Kind → Option (List Edition) → Bool
-editionsKept kind none = false
-editionsKept kind (some es) = areEditions kind es
 
 abbrev pub orNone : Option (List Edition) → List Edition
 orNone none = []

@@ -1,6 +1,7 @@
 // A channel loaded from the 89 numbers that a C caller keeps, whatever they are. include/klarvesimo.h is the manual of
-// their places. Numbers that no sound channel has become a queue of 17, a name of 45 bytes or five editions, so a channel
-// that is not sound: there is no flag to look at. The name comes first: its kind says what the other numbers are.
+// their places. Numbers that no sound channel has become a queue of 17 or a name of 45 bytes, so a channel that is not
+// sound: there is no flag to look at. The name comes first: its kind says what the other numbers are. Of the editions
+// the newest is loaded; the older ones stay in the numbers.
 ghost use mathlib.Core.Path.{_≡_};
 ghost use mathlib.Core.Bool.{true, _&&_, cond};
 ghost use mathlib.Core.Option.{some};
@@ -10,7 +11,11 @@ ghost use lib.ListN.{getD};
 ghost use Rattle.synth.specs.Settings.{settings};
 ghost use Rattle.queue.specs.Queue.{listOf};
 ghost use Rattle.channelnames.specs.Names.{nameOf};
-ghost use Rattle.settings.specs.Kept.{editionsOf};
+ghost use mathlib.Core.List.{List};
+ghost use Rattle.synth.specs.Settings.{editionAt};
+ghost use Rattle.synth.specs.Channel.{areEditions};
+ghost use Rattle.synth.specs.declared.Edition.{Edition};
+ghost use Rattle.settings.specs.Kept.{asFurther};
 ghost use Rattle.channelnumbers.specs.Numbers.{
   stateAt,
   lastAt,
@@ -28,21 +33,19 @@ ghost use Rattle.loading.specs.Steps.{
   isOwn,
   editionKept,
   editionsKept,
-  orNone,
   Read,
   LoadsPart,
 };
 
-// The channel, and the last id seen on it.
+// The channel, the last id seen on it, and its settings of the moment.
 pub struct Loaded {
     pub last: synth::LastId,
     pub channel: channel::Channel,
+    pub set: synth::Edition,
 }
 
 // Counts and a size that no sound channel has.
 const TOO_MANY: usize = queue::MOST + 1;
-
-const TOO_MANY_EDITIONS: usize = settings::MOST + 1;
 
 const TOO_LONG: usize = channelnames::LONGEST + 1;
 
@@ -87,7 +90,81 @@ fn last_at(n: u64) -> synth::LastId
     synth::LastId::Seen(((n - 1) % 4294967296) as u32)
 }
 
-// Whether state, last id and count are within their ranges.
+// The count of a part whose count fits; 0 for one that does not.
+fn count_where(fits: bool, n: u64) -> usize
+    ensures { λ r. ⌜ r ≡ cond fits n 0 ⌝ }
+{
+    if fits {
+        return n as usize;
+    }
+    0
+}
+
+// Whether the sort and the value in these places are those of a setting that is unset, or is of sort `own` with a value
+// below `end`.
+fn setting_fits(fits: bool, own: u64, end: u64, at: usize, ws: &[u64; 89]) -> bool
+    requires { ⌜ at ≤ 87 ⌝ }
+    ensures { λ r. ⌜ r ≡ (fits && isOwn own end (getD (now (ws .entry)) at 0) (getD (now (ws .entry)) (at + 1) 0)) ⌝ }
+{
+    if !fits {
+        return false;
+    }
+    if ws[at] == own {
+        return ws[at + 1] < end;
+    }
+    ws[at] == 0
+}
+
+// Whether the kind's own settings of an edition fit.
+fn edition_fits(fits: bool, kind: answer::Kind, at: usize, ws: &[u64; 89]) -> bool
+    requires { ⌜ at ≤ 83 ⌝ }
+    ensures { λ r. ⌜ r ≡ (fits && editionKept kind (editionFrom (settings kind) at (now (ws .entry)))) ⌝ }
+{
+    match kind {
+        answer::Kind::Synthesizer => {
+            let kill = setting_fits(fits, 1, 2, at, ws);
+            setting_fits(kill, 2, MILLIS_END, at + 2, ws)
+        }
+        answer::Kind::Recognizer => {
+            let silence = setting_fits(fits, 2, MILLIS_END, at, ws);
+            let confidence = setting_fits(silence, 3, LEVELS_END, at + 2, ws);
+            setting_fits(confidence, 3, LEVELS_END, at + 2 + 2, ws)
+        }
+    }
+}
+
+// Whether so many editions can be kept.
+fn editions_fit(n: u64) -> bool
+    ensures { λ r. ⌜ r ≡ (leb 1 n && leb n 4) ⌝ }
+{
+    if n == 0 {
+        return false;
+    }
+    n <= settings::MOST as u64
+}
+
+// Whether one to four editions stand in the numbers, which a channel of that kind can have.
+fn editions_kept(kind: answer::Kind, ws: &[u64; 89]) -> bool
+    ensures { λ r. ⌜ r ≡ editionsKept kind (editionsIn kind (now (ws .entry))) ⌝ }
+{
+    let n = ws[channelnumbers::EDITIONS_AT];
+    let fits = editions_fit(n);
+    let count = count_where(fits, n);
+    let mut all_fit = fits;
+    let mut i: usize = 0;
+    while i < count {
+        all_fit = edition_fits(
+            all_fit,
+            kind,
+            channelnumbers::SETTINGS_AT + i * channelnumbers::EDITION_NUMBERS,
+            ws,
+        );
+        i += 1;
+    }
+    all_fit
+}
+
+// Whether state, last id and count are within their ranges, and the editions those of a channel of that kind.
 fn front_fits(kind: answer::Kind, ws: &[u64; 89]) -> bool
     ensures { λ r. ⌜ r ≡ frontFits kind (now (ws .entry)) ⌝ }
 {
@@ -97,17 +174,10 @@ fn front_fits(kind: answer::Kind, ws: &[u64; 89]) -> bool
     if 4294967296 < ws[1] {
         return false;
     }
-    ws[2] <= queue::most(kind) as u64
-}
-
-// The count of a part whose count fits; 0 for one that does not.
-fn count_where(fits: bool, n: u64) -> usize
-    ensures { λ r. ⌜ r ≡ cond fits n 0 ⌝ }
-{
-    if fits {
-        return n as usize;
+    if (queue::most(kind) as u64) < ws[2] {
+        return false;
     }
-    0
+    editions_kept(kind, ws)
 }
 
 // Whether a part fits whose numbers have these bits among them.
@@ -187,21 +257,6 @@ fn load_name(ws: &[u64; 89]) -> channelnames::Name
     }
 }
 
-// Whether the sort and the value in these places are those of a setting that is unset, or is of sort `own` with a value
-// below `end`.
-fn setting_fits(fits: bool, own: u64, end: u64, at: usize, ws: &[u64; 89]) -> bool
-    requires { ⌜ at ≤ 87 ⌝ }
-    ensures { λ r. ⌜ r ≡ (fits && isOwn own end (getD (now (ws .entry)) at 0) (getD (now (ws .entry)) (at + 1) 0)) ⌝ }
-{
-    if !fits {
-        return false;
-    }
-    if ws[at] == own {
-        return ws[at + 1] < end;
-    }
-    ws[at] == 0
-}
-
 fn level_at(value: u64) -> synth::Setting
     ensures { λ r. ⌜ (value ≤ 1000000 → settingAt 3 value ≡ some r) ⌝ }
 {
@@ -229,24 +284,7 @@ fn setting_in(at: usize, ws: &[u64; 89]) -> synth::Setting
     setting_at(ws[at], ws[at + 1])
 }
 
-// Whether an edition fits, and one that does: the kind's own settings, all others unset.
-fn edition_fits(fits: bool, kind: answer::Kind, at: usize, ws: &[u64; 89]) -> bool
-    requires { ⌜ at ≤ 83 ⌝ }
-    ensures { λ r. ⌜ r ≡ (fits && editionKept kind (editionFrom (settings kind) at (now (ws .entry)))) ⌝ }
-{
-    match kind {
-        answer::Kind::Synthesizer => {
-            let kill = setting_fits(fits, 1, 2, at, ws);
-            setting_fits(kill, 2, MILLIS_END, at + 2, ws)
-        }
-        answer::Kind::Recognizer => {
-            let silence = setting_fits(fits, 2, MILLIS_END, at, ws);
-            let confidence = setting_fits(silence, 3, LEVELS_END, at + 2, ws);
-            setting_fits(confidence, 3, LEVELS_END, at + 2 + 2, ws)
-        }
-    }
-}
-
+// An edition that fits: the kind's own settings, all others unset.
 fn edition_in(kind: answer::Kind, at: usize, ws: &[u64; 89]) -> synth::Edition
     requires { ⌜ at ≤ 83 ⌝ }
     ensures { λ r. ⌜ (editionKept kind (editionFrom (settings kind) at (now (ws .entry))) ≡ true
@@ -276,38 +314,6 @@ fn edition_in(kind: answer::Kind, at: usize, ws: &[u64; 89]) -> synth::Edition
     }
 }
 
-// Whether so many editions can be kept.
-fn editions_fit(n: u64) -> bool
-    ensures { λ r. ⌜ r ≡ (leb 1 n && leb n 4) ⌝ }
-{
-    if n == 0 {
-        return false;
-    }
-    n <= settings::MOST as u64
-}
-
-fn load_editions(kind: answer::Kind, ws: &[u64; 89]) -> settings::Editions
-    ensures { λ r. ⌜ LoadsPart (editionsKept kind (editionsIn kind (now (ws .entry))))
-        (orNone (editionsIn kind (now (ws .entry)))) 4 (editionsOf r) ⌝ }
-{
-    let n = ws[channelnumbers::EDITIONS_AT];
-    let fits = editions_fit(n);
-    let count = count_where(fits, n);
-    let mut list = [settings::UNSET; settings::MOST];
-    let mut all_fit = fits;
-    let mut i: usize = 0;
-    while i < count {
-        let at = channelnumbers::SETTINGS_AT + i * channelnumbers::EDITION_NUMBERS;
-        all_fit = edition_fits(all_fit, kind, at, ws);
-        list[i] = edition_in(kind, at, ws);
-        i += 1;
-    }
-    settings::Editions {
-        list,
-        count: count_loaded(all_fit, count, TOO_MANY_EDITIONS),
-    }
-}
-
 // The channel that the numbers are, or one that is not sound. Those past the counts and past the size are not looked at.
 pub fn load(ws: &[u64; 89]) -> Loaded
     ensures { λ r. ⌜ Loads (now (ws .entry)) r ⌝ }
@@ -317,12 +323,26 @@ pub fn load(ws: &[u64; 89]) -> Loaded
     let queue = load_queue(kind, ws);
     let state = state_at(ws[0]);
     let last = last_at(ws[1]);
-    let editions = load_editions(kind, ws);
-    let channel = channel::Channel {
-        name,
-        queue,
-        state,
-        editions,
-    };
-    Loaded { last, channel }
+    let set = edition_in(kind, channelnumbers::SETTINGS_AT, ws);
+    let channel = channel::Channel { name, queue, state };
+    Loaded { last, channel, set }
+}
+
+// The edition of that number, 1 the newest.
+pub fn edition_at(kind: answer::Kind, number: u32, ws: &[u64; 89]) -> settings::Further
+    ensures { λ r. ⌜ ((es : List Edition) → editionsIn kind (now (ws .entry)) ≡ some es → areEditions kind es ≡ true
+        → r ≡ asFurther (editionAt number es)) ⌝ }
+{
+    if number == 0 {
+        return settings::Further::Nothing;
+    }
+    let place = number as usize - 1;
+    if settings::MOST <= place {
+        return settings::Further::Nothing;
+    }
+    if ws[channelnumbers::EDITIONS_AT] <= place as u64 {
+        return settings::Further::Nothing;
+    }
+    let at = channelnumbers::SETTINGS_AT + place * channelnumbers::EDITION_NUMBERS;
+    settings::Further::Of(edition_in(kind, at, ws))
 }

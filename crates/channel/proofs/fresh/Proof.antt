@@ -6,11 +6,8 @@ use Rattle.channel.proofs.fresh.Tie as tie
 empty-requires : tie.Need-empty-requires
 empty-requires c κs = search needs
 
-fresh-requires : tie.Need-fresh-requires
-fresh-requires c κs = search needs
-
 returns : tie.Need-returns
-returns c = rw (c .before .empty .ensures, c .fresh .ensures)
+returns c = rw (c .empty .ensures)
 
 pub fresh-spec : {M : Type 1} → statement M
-fresh-spec = tie.close (tie.spec empty-requires fresh-requires returns)
+fresh-spec = tie.close (tie.spec empty-requires returns)

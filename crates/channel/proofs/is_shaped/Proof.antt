@@ -22,15 +22,15 @@ and-last true true e = e
 and-last true false e = refl
 and-last false b e = refl
 
-named : (c : tie.Else1) → wellNamed (nameOf (c .before .before .args .name)) ≡ true
+named : (c : tie.Else1) → wellNamed (nameOf (c .before .before .before .before .args .c .name)) ≡ true
 named c = sym (c .before .is-well-named .ensures) ∙ not-false _ (c .if1 .left)
 
-kind-is : (c : tie.After-kind-by) → kindOf (nameOf (c .before .before .before .args .name)) ≡ c .kind-by .result
+kind-is : (c : tie.After-kind-by) → kindOf (nameOf (c .before .before .before .before .before .args .c .name)) ≡ c .kind-by .result
 kind-is c = named-kind _ (named (c .before)) ∙ sym (c .kind-by .ensures)
 
 -- the tests of the state
-fitted : (c : tie.After-fits2) → let ch = c .before .before .before .before .before .args in
-    isStateOf (kindOf (nameOf (ch .name))) (ch .state) && Bool·beq (isBusy (ch .state)) (not (isEmpty (listOf (ch .queue)))) ≡ c .fits2 .result
+fitted : (c : tie.After-fits2) → let ch = c .before .before .before .before .before .before .before .args in
+    isStateOf (kindOf (nameOf (ch .c .name))) (ch .c .state) && Bool·beq (isBusy (ch .c .state)) (not (isEmpty (listOf (ch .c .queue)))) ≡ c .fits2 .result
 fitted c = rw (kind-is (c .before .before), ← c .before .is-empty .ensures) (sym (c .fits2 .ensures))
 
 is-well-named-requires : tie.Need-is-well-named-requires
@@ -74,12 +74,12 @@ returns-4 c es =
     let else3 = c .before .before in
     let else2 = else3 .before .before in
     let told = else2 .before .before .before in
-    let at = told .before .before .before in
+    let at = told .before .before .before .before .before in
     let above = c .before .first-above .ensures in
     let in-range : firstAbove (at .args .last) ≤ 4294967296 = rw (← above .0) (above .1) in
-    let q = at .args .queue in
+    let q = at .args .c .queue in
     let last = at .args .last in
-    let kind : Kind = kindOf (nameOf (at .args .name)) in
+    let kind : Kind = kindOf (nameOf (at .args .c .name)) in
     rw (named (told .before), fitted (else2 .before) ∙ not-false _ (else2 .if2 .left), sym (else3 .before .idle-unseen .ensures) ∙ not-false _ (else3 .if3 .left))
     (c .is-rising .ensures ∙ rw (above .0, ← kind-is told) (sym (and-last (leb (length (listOf q)) (most kind)) (ascends 0 (ids (listOf q)) (firstAbove last)) (le-leb (firstAbove last) 4294967296 in-range))))
 

@@ -1,13 +1,10 @@
--- `channel::present` takes the newest edition with it. Assumes nothing.
-use borrow.Author.Needs.{needs}
+-- `channel::present` takes the settings of the moment with it. Assumes nothing.
+use mathlib.Core.Path.{refl}
 use Rattle.channel.proofs.present.Statement.{statement}
 use Rattle.channel.proofs.present.Tie as tie
 
-newest-requires : tie.Need-newest-requires
-newest-requires c κs = search needs
-
 returns : tie.Need-returns
-returns c = rw (c .newest .ensures)
+returns c = refl
 
 pub present-spec : {M : Type 1} → statement M
-present-spec = tie.close (tie.spec newest-requires returns)
+present-spec = tie.close (tie.spec returns)

@@ -21,6 +21,7 @@ use Rattle.synth.specs.Channel.{View, firstAbove, areEditions, sound}
 use Rattle.synth.specs.declared.State.{State}
 use Rattle.synth.specs.declared.State.the-variants.{Idle, Speaking, Paused, Recognizing, Recognized}
 use Rattle.synth.specs.declared.Entry.{Entry}
+use Rattle.synth.specs.declared.Level.{Level}
 use Rattle.synth.specs.declared.Setting.{Setting}
 use Rattle.synth.specs.declared.Edition.{Edition}
 use Rattle.synth.specs.declared.LastId.{LastId}
@@ -28,6 +29,7 @@ use Rattle.synth.specs.declared.LastId.the-variants.{NoneSeen, Seen}
 use Rattle.channelnumbers.specs.Numbers.{entryNumber, thresholds, padded, queueNumbers, sortNumber, valueNumber, settingNumbers, editionNumbers, editionsNumbers, numbersOf, stateAt, lastAt, entryAt, leveled, numbersAt, entriesAt, settingAt, withSetting, editionFrom, joining, editionsFrom, editionsIn, nameIn, viewWith, viewAt, viewOf}
 use Rattle.channelnumbers.proofs.Saving.{edition-six, queue-16}
 use Rattle.synth.proofs.Channels.{sound-facts}
+use Rattle.synth.proofs.Levels.{Exact}
 use Rattle.channelnames.specs.Names.{kindBy}
 use Rattle.channelnames.proofs.Tails.{named-kind}
 
@@ -53,6 +55,13 @@ Zeroed Kind.Recognizer queue = Unit {0}
 pub record Tellable (v : View) : Type 0 where
   pub zeroed : Zeroed (kindBy (v .name)) (v .queue)
   pub editions : All (Tells (kindBy (v .name))) (v .editions)
+
+pub flag-told : (b : Bool) → Told (Setting.Flag b)
+flag-told true = refl
+flag-told false = refl
+
+pub level-told : (l : Level) → Exact l → Told (Setting.Level l)
+level-told l e = λ i. some (Setting.Level (record { millionths = l .millionths; single = sym (e .number) i }))
 
 slot-told : (n : Name) (e : Edition) → AllTold e → Told (slot n e)
 slot-told killOnBargeIn e t = t .0
@@ -211,20 +220,25 @@ settings-behind (n ∷ ns) e t p r at h =
     ∙ settings-behind ns e t (p ++ (a ∷ b ∷ [])) r (at + 2) two in
     ap₂ (withSetting n) (ap₂ settingAt here there ∙ slot-told n e t) rest
 
+pub edition-behind : (kind : Kind) (e : Edition) → Tells kind e → (p r : List ℕ) (at : ℕ) → length p ≡ at
+    → editionFrom (settings kind) at (p ++ (editionNumbers kind e ++ r)) ≡ some e
+edition-behind kind e t p r at h =
+    let told : List ℕ = settingNumbers (settings kind) e in
+    let pad : List ℕ = zeros (6 - length told) in
+    ap (λ (l : List ℕ). editionFrom (settings kind) at (p ++ l)) (append-assoc told pad r)
+    ∙ settings-behind (settings kind) e (t .told) p (pad ++ r) at h
+    ∙ ap some (own-all kind e t)
+
 editions-behind : (kind : Kind) (es : List Edition) → All (Tells kind) es → (p r : List ℕ) (at : ℕ) → length p ≡ at
     → editionsFrom kind at (length es) (p ++ (editionsNumbers kind es ++ r)) ≡ some es
 editions-behind kind [] t p r at h = refl
 editions-behind kind (e ∷ es) (t, ts) p r at h =
     let six : List ℕ = editionNumbers kind e in
-    let told : List ℕ = settingNumbers (settings kind) e in
-    let pad : List ℕ = zeros (6 - length told) in
     let rest : List ℕ = editionsNumbers kind es ++ r in
     let far : length (p ++ six) ≡ at + 6 = length-append p six ∙ omega (arith, h, edition-six kind e) in
     let first : editionFrom (settings kind) at (p ++ (six ++ editionsNumbers kind es ++ r)) ≡ some e =
-    ap (λ (l : List ℕ). editionFrom (settings kind) at (p ++ l))
-    (append-assoc six (editionsNumbers kind es) r ∙ append-assoc told pad rest)
-    ∙ settings-behind (settings kind) e (t .told) p (pad ++ rest) at h
-    ∙ ap some (own-all kind e t) in
+    ap (λ (l : List ℕ). editionFrom (settings kind) at (p ++ l)) (append-assoc six (editionsNumbers kind es) r)
+    ∙ edition-behind kind e t p rest at h in
     let others : editionsFrom kind (at + 6) (length es) (p ++ (six ++ editionsNumbers kind es ++ r)) ≡ some es =
     ap (editionsFrom kind (at + 6) (length es))
     (ap (λ (l : List ℕ). p ++ l) (append-assoc six (editionsNumbers kind es) r) ∙ sym (append-assoc p six rest))

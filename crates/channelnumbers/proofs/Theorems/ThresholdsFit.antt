@@ -33,22 +33,15 @@ use Rattle.synth.specs.declared.Setting.{Setting}
 use Rattle.synth.specs.declared.Edition.{Edition}
 use Rattle.synth.specs.declared.LastId.the-variants.{Seen}
 use Rattle.synth.proofs.Channels.{sound-facts}
-use Rattle.synth.proofs.Levels.{Exact, read-exact}
+use Rattle.synth.proofs.Levels.{read-exact}
 use Rattle.synth.proofs.Nexts.{Next, same, judged, ended, gone, next-of}
 use Rattle.synth.proofs.Theorems.Soundness.{call-sound}
 use Rattle.queue.specs.Queue.{isSynthesizer}
 use Rattle.channelnames.specs.Names.{kindBy}
 use Rattle.channelnames.proofs.Tails.{named-kind}
-use Rattle.channelnumbers.proofs.Theorems.LoadSaved.{Told, AllTold, Tells, Zeroed, Tellable, set-told, unset-is, sound-own}
+use Rattle.channelnumbers.proofs.Theorems.LoadSaved.{Told, AllTold, Tells, Zeroed, Tellable, flag-told, level-told, set-told, unset-is, sound-own}
 
 -- ---- settings that are read
-
-flag-told : (b : Bool) → Told (Setting.Flag b)
-flag-told true = refl
-flag-told false = refl
-
-level-told : (l : Level) → Exact l → Told (Setting.Level l)
-level-told l e = λ i. some (Setting.Level (record { millionths = l .millionths; single = sym (e .number) i }))
 
 read-told : (s : Sort) (v : List ℕ) → Told (settingAs s v)
 read-told flag v = flag-told _

@@ -1,4 +1,5 @@
 -- `channelnumbers::save_three` stores six numbers, one behind the other. Assumes nothing.
+use Prim.Native.Nat.{_≤_}
 use Rattle.channelnumbers.proofs.Saving.{stored-six}
 use borrow.Author.Needs.{needs}
 use Rattle.channelnumbers.proofs.save_three.Statement.{statement}
@@ -76,7 +77,7 @@ element-write-ws-6 c = search needs
 returns : tie.Need-returns
 returns c =
     let a = c .before .before .before .before .before .before .args in
-    let stored = stored-six (a .ws .now) (a .at) _ _ _ _ _ _ (search needs) (search needs) in
+    let room : a .at ≤ 83 = search needs in
     rw (
       c .before .before .before .before .before .sort-number .ensures,
       c .before .before .before .before .value-number .ensures,
@@ -84,7 +85,7 @@ returns c =
       c .before .before .value-number2 .ensures,
       c .before .sort-number3 .ensures,
       c .value-number3 .ensures,
-    ) stored
+    ) (λ long. stored-six (a .ws .now) (a .at) _ _ _ _ _ _ long room)
 
 pub save-three-spec : {M : Type 1} → statement M
 save-three-spec =

@@ -7,14 +7,14 @@ use native.Mathlib.Omega.{arith}
 use lib.ListN.{length}
 use Rattle.queue.specs.Queue.{levelIn}
 use Rattle.queue.proofs.Queues.{levels-16}
-use Rattle.channelnumbers.specs.Steps.{Stored}
+use Rattle.channelnumbers.specs.Steps.{Stores}
 use Rattle.channelnumbers.proofs.Saving.{stored-none, number-more, thresholds-16}
 use borrow.Author.Needs.{needs}
 use Rattle.channelnumbers.proofs.save_thresholds.Statement.{statement}
 use Rattle.channelnumbers.proofs.save_thresholds.Tie as tie
 
 abbrev Inv-loop : tie.InvT-loop
-Inv-loop ws₀ count thresholds i₀ ws i = (i ≤ count) × (count ≤ 16) × (length thresholds ≡ 16) × Stored ws₀ 12 (map levelIn thresholds) i ws
+Inv-loop ws₀ count thresholds i₀ ws i = (i ≤ count) × (count ≤ 16) × (length thresholds ≡ 16) × Stores ws₀ 12 (map levelIn thresholds) i ws
 
 abbrev μ-loop : tie.MeasureT-loop
 μ-loop ws₀ count thresholds i₀ ws i = count - i
@@ -30,7 +30,7 @@ loop-holds c =
       omega arith,
       rw kept (thresholds-16 (a .kind) (a .q .count) (search needs)),
       levels-16 (a .q) _ (at .good .1 .0),
-      stored-none (a .ws .now) 12 (map levelIn (a .q .thresholds)) (search needs),
+      stored-none (a .ws .now) 12 (map levelIn (a .q .thresholds)),
     )
 
 mul-ws : tie.Need-mul-ws Inv-loop μ-loop
@@ -60,13 +60,13 @@ loop-less c = search needs
 loop-again : tie.Need-loop-again Inv-loop μ-loop
 loop-again c =
     let inv = c .before .loop .inv in
-    (omega arith, inv .1, inv .2, number-more levelIn (c .before .before .before .before .args .q .thresholds) (inv .2) (omega arith) (omega arith) (inv .3))
+    (omega arith, inv .1, inv .2, λ long. number-more levelIn (c .before .before .before .before .args .q .thresholds) (inv .2) (omega arith) (omega arith) (inv .3 long))
 
 returns : tie.Need-returns Inv-loop μ-loop
 returns c =
     let l = c .before .loop in
     let end : l .i ≡ c .before .before .before .threshold-count .result = omega (arith, l .inv .0, c .loop-test .left) in
-    rw (end ∙ c .before .before .before .threshold-count .ensures) at (l .inv .3)
+    λ long. rw (end ∙ c .before .before .before .threshold-count .ensures) at (l .inv .3 long)
 
 pub save-thresholds-spec : {M : Type 1} → statement M
 save-thresholds-spec =

@@ -27,18 +27,18 @@ handle-line-requires c κs = let at = c .before .before .before .before .before 
     (at .pre, in-range (at .args .k) (at .args .f .now) (c .before .before .line .given .0 .0) (c .before .before .line .given .0 .1 .0) (ap startedOf (sym (c .before .before .line .given .1)) ∙ c .before .before .before .before .start-line .ensures))
 
 returns : tie.Need-returns
-returns c =
+returns c es n s =
     let a = c .before .before .before .before .before .before .args in
     leaves-refused 5 (length (a .f .now)) (a .out .now) (c .refused .ensures)
-    (ap (frameTurn (view (a .last) (a .c)) (length (a .out .now)) (a .f .now) (a .major) (a .minor)) (sym (c .before .before .before .start-line .ensures) ∙ ap startedOf (c .before .enum-told .given .1)))
+    (ap (frameTurn (view (a .last) (a .c) es) (length (a .out .now)) (a .f .now) (a .major) (a .minor)) (sym (c .before .before .before .start-line .ensures) ∙ ap startedOf (c .before .enum-told .given .1)))
 
 same-length : tie.Need-same-length
 same-length c = search needs
 
 returns-2 : tie.Need-returns-2
-returns-2 c =
+returns-2 c es n s =
     let a = c .before .before .before .before .before .before .before .before .before .before .args in
-    turned (ap (frameTurn (view (a .last) (a .c)) (length (a .out .now)) (a .f .now) (a .major) (a .minor)) (ap startedOf (sym (c .before .before .before .before .before .line .given .1)) ∙ c .before .before .before .before .before .before .before .start-line .ensures)) (c .before .before .handle-line .ensures)
+    turned (ap (frameTurn (view (a .last) (a .c) es) (length (a .out .now)) (a .f .now) (a .major) (a .minor)) (ap startedOf (sym (c .before .before .before .before .before .line .given .1)) ∙ c .before .before .before .before .before .before .before .start-line .ensures)) (c .before .before .handle-line .ensures es n s)
 
 pub handle-frame-spec : {M : Type 1} → statement M
 handle-frame-spec =

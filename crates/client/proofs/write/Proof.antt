@@ -12,19 +12,19 @@ enum-told : tie.Need-enum-told
 enum-told c = search needs
 
 respond-requires : tie.Need-respond-requires
-respond-requires c κs = let at = c .before .before .before .before .before .before in (at .pre .0, at .pre .1)
+respond-requires c κs = c .before .before .before .before .before .pre
 
 enum-told-2 : tie.Need-enum-told-2
 enum-told-2 c = search needs
 
 respond-requires-2 : tie.Need-respond-requires-2
-respond-requires-2 c κs = let at = c .before .before .before .before .before .before in (at .pre .0, at .pre .1)
+respond-requires-2 c κs = c .before .before .before .before .before .pre
 
 enum-known-effect : tie.Need-enum-known-effect
 enum-known-effect c = search needs
 
 tell-requires : tie.Need-tell-requires
-tell-requires c κs = c .before .before .before .before .before .before .before .before .before .pre .0
+tell-requires c κs = c .before .before .before .before .before .before .before .pre
 
 same-length : tie.Need-same-length
 same-length c = search needs
@@ -32,11 +32,11 @@ same-length c = search needs
 returns : tie.Need-returns
 returns c =
     λ v d n s does.
-    let a = c .before .before .before .before .before .before .before .before .before .args in
-    let e = listed-written (nameOf (a .c .name)) n (ap (λ x. saidBy x v (a .done .outcome)) (c .before .before .before .before .enum-told .given .1)) does in
+    let a = c .before .before .before .before .before .before .before .before .args in
+    let e = listed-written (nameOf (a .name)) n (ap (λ x. saidBy x v (a .done .outcome)) (c .before .before .before .before .enum-told .given .1)) does in
     let r = c .before .before .respond .ensures in (
-      r .0 ∙ ap (λ l. counted l (a .out .now)) e,
-      r .1 ∙ ap (λ l. delivered l (a .out .now)) e,
+      r .0 (does .few) ∙ ap (λ l. counted l (a .out .now)) e,
+      r .1 (does .few) ∙ ap (λ l. delivered l (a .out .now)) e,
     )
 
 same-length-2 : tie.Need-same-length-2
@@ -45,11 +45,11 @@ same-length-2 c = search needs
 returns-2 : tie.Need-returns-2
 returns-2 c =
     λ v d n s does.
-    let a = c .before .before .before .before .before .before .before .before .before .args in
-    let e = listed-written (nameOf (a .c .name)) n (ap (λ x. saidBy x v (a .done .outcome)) (c .before .before .before .before .enum-told2 .given .1)) does in
+    let a = c .before .before .before .before .before .before .before .before .args in
+    let e = listed-written (nameOf (a .name)) n (ap (λ x. saidBy x v (a .done .outcome)) (c .before .before .before .before .enum-told2 .given .1)) does in
     let r = c .before .before .respond2 .ensures in (
-      r .0 ∙ ap (λ l. counted l (a .out .now)) e,
-      r .1 ∙ ap (λ l. delivered l (a .out .now)) e,
+      r .0 (does .few) ∙ ap (λ l. counted l (a .out .now)) e,
+      r .1 (does .few) ∙ ap (λ l. delivered l (a .out .now)) e,
     )
 
 same-length-3 : tie.Need-same-length-3
@@ -58,9 +58,9 @@ same-length-3 c = search needs
 returns-3 : tie.Need-returns-3
 returns-3 c =
     λ v d n s does.
-    let a = c .before .before .before .before .before .before .before .before .before .before .before .before .args in
-    let of = c .before .before .before .before .before .before .before .effect .given .1 in
-    let e = told-written (nameOf (a .c .name)) (a .c .set) _ n s of does in
+    let a = c .before .before .before .before .before .before .before .before .before .before .args in
+    let of = c .before .before .before .before .before .before .effect .given .1 in
+    let e = told-written (nameOf (a .name)) (a .set) _ n s of does in
     let ends = subst (λ x. EndsTelling x (a .done .outcome)) of (does .ends) in
     let r = c .before .before .tell .ensures in (
       r .0 ends ∙ ap (λ l. counted l (a .out .now)) e,

@@ -36,4 +36,4 @@ stays view (called {s = s} {c = k} m u) e =
 
 pub sound-of-the-code : SoundOfTheCode
 sound-of-the-code name o calls end e n run =
-    stays viewed (runs run) (ap (λ (x : Opened). sound (x .channel)) e ∙ opened-sound name ∙ ap (λ (x : Opened). eqb (x .number) 0) (sym e) ∙ ap (λ (i : ℕ). eqb i 0) n)
+    stays viewed (runs o run) (ap (λ (x : Opened). sound (x .channel)) e ∙ opened-sound name ∙ ap (λ (x : Opened). eqb (x .number) 0) (sym e) ∙ ap (λ (i : ℕ). eqb i 0) n)

@@ -22,19 +22,21 @@ same-length c = search needs
 
 returns : tie.Need-returns
 returns c =
-    let a = c .before .before .before .before .before .before .before .before .before .before .before .args in
-    handle-refused (a .channel .now) (a .out .now) (a .counts .now) (input (a .s .now)) _ (c .before .before .before .before .before .before .before .load .ensures) _ _ (c .before .before .before .before .handle .ensures) (c .if1 .taken)
+    let a = c .before .before .before .before .before .before .before .before .before .before .before .before .args in
+    let is = c .before .before .before .before .before .before .before .before .load .ensures in
+    handle-refused (a .channel .now) (a .out .now) (a .counts .now) (input (a .s .now)) _ is _ _ (c .before .before .before .before .handle .ensures (is .editions) (is .set) (is .fit)) (c .if1 .taken)
 
-save-requires : tie.Need-save-requires
-save-requires c κs = search needs
+save-after-requires : tie.Need-save-after-requires
+save-after-requires c κs = search needs
 
 same-length-2 : tie.Need-same-length-2
 same-length-2 c = search needs
 
 returns-2 : tie.Need-returns-2
 returns-2 c =
-    let a = c .before .before .before .before .before .before .before .before .before .before .before .before .before .before .args in
-    handle-answered (a .channel .now) (a .out .now) (a .counts .now) (input (a .s .now)) _ (c .before .before .before .before .before .before .before .before .before .before .load .ensures) _ _ (c .before .before .before .before .before .before .before .handle .ensures) (c .before .before .before .if1 .left) (c .save .ensures .0)
+    let a = c .before .before .before .before .before .before .before .before .before .before .before .before .before .before .before .args in
+    let is = c .before .before .before .before .before .before .before .before .before .before .before .load .ensures in
+    handle-answered (a .channel .now) (a .out .now) (a .counts .now) (input (a .s .now)) _ is _ _ (c .before .before .before .before .before .before .before .handle .ensures (is .editions) (is .set) (is .fit)) (c .before .before .before .if1 .left) (c .save-after .ensures)
 
 pub klarvesimo-handle-spec : {M : Type 1} → statement M
 klarvesimo-handle-spec =
@@ -46,6 +48,6 @@ klarvesimo-handle-spec =
     element-write-counts-2
     same-length
     returns
-    save-requires
+    save-after-requires
     same-length-2
     returns-2)

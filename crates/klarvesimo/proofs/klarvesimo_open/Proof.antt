@@ -7,11 +7,11 @@ use Rattle.klarvesimo.proofs.klarvesimo_open.Tie as tie
 open-channel-requires : tie.Need-open-channel-requires
 open-channel-requires c κs = search needs
 
-save-requires : tie.Need-save-requires
-save-requires c κs = search needs
+save-opened-requires : tie.Need-save-opened-requires
+save-opened-requires c κs = search needs
 
 returns : tie.Need-returns
-returns c = opens (c .before .before .before .before .before .args .name .now) (c .before .before .before .open-channel .result) _ (c .before .before .before .open-channel .ensures) (c .save .ensures .0)
+returns c = opens (c .before .before .before .before .before .args .name .now) (c .before .before .before .open-channel .result) _ (c .before .before .before .open-channel .ensures) (c .save-opened .ensures)
 
 pub klarvesimo-open-spec : {M : Type 1} → statement M
-klarvesimo-open-spec = tie.close (tie.spec open-channel-requires save-requires returns)
+klarvesimo-open-spec = tie.close (tie.spec open-channel-requires save-opened-requires returns)

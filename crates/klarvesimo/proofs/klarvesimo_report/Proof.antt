@@ -20,10 +20,11 @@ same-length c = search needs
 returns : tie.Need-returns
 returns c =
     let a = c .before .before .before .before .before .before .before .before .before .before .args in
-    report-refused (a .channel .now) (a .out .now) (a .written .now) (report (a .cause) (a .score)) _ (c .before .before .before .before .before .before .before .load .ensures) _ _ (c .before .before .before .before .report .ensures) (c .if1 .taken)
+    let is = c .before .before .before .before .before .before .before .load .ensures in
+    report-refused (a .channel .now) (a .out .now) (a .written .now) (report (a .cause) (a .score)) _ is _ _ (c .before .before .before .before .report .ensures (is .editions) (is .fit)) (c .if1 .taken)
 
-save-requires : tie.Need-save-requires
-save-requires c κs = search needs
+save-after-requires : tie.Need-save-after-requires
+save-after-requires c κs = search needs
 
 same-length-2 : tie.Need-same-length-2
 same-length-2 c = search needs
@@ -31,7 +32,8 @@ same-length-2 c = search needs
 returns-2 : tie.Need-returns-2
 returns-2 c =
     let a = c .before .before .before .before .before .before .before .before .before .before .before .before .before .args in
-    report-answered (a .channel .now) (a .out .now) (a .written .now) (report (a .cause) (a .score)) _ (c .before .before .before .before .before .before .before .before .before .before .load .ensures) _ _ (c .before .before .before .before .before .before .before .report .ensures) (c .before .before .before .if1 .left) (c .save .ensures .0)
+    let is = c .before .before .before .before .before .before .before .before .before .before .load .ensures in
+    report-answered (a .channel .now) (a .out .now) (a .written .now) (report (a .cause) (a .score)) _ is _ _ (c .before .before .before .before .before .before .before .report .ensures (is .editions) (is .fit)) (c .before .before .before .if1 .left) (c .save-after .ensures)
 
 pub klarvesimo-report-spec : {M : Type 1} → statement M
 klarvesimo-report-spec =
@@ -42,6 +44,6 @@ klarvesimo-report-spec =
     element-write-written
     same-length
     returns
-    save-requires
+    save-after-requires
     same-length-2
     returns-2)

@@ -19,15 +19,23 @@ returns-2 : tie.Need-returns-2
 returns-2 c =
     rw (le-leb _ 4 (c .before .before .if1 .left), lt-leb _ 4294967296 (c .if2 .taken))
 
-element-copy-out-result : tie.Need-element-copy-out-result
-element-copy-out-result c = search needs
-
 most-requires : tie.Need-most-requires
 most-requires c κs = search needs
 
+element-copy-out-if3 : tie.Need-element-copy-out-if3
+element-copy-out-if3 c = search needs
+
 returns-3 : tie.Need-returns-3
 returns-3 c =
-    rw (le-leb _ 4 (c .before .before .before .before .if1 .left), le-leb _ 4294967296 (c .before .before .if2 .left), ← c .most .ensures .0)
+    rw (le-leb _ 4 (c .before .before .before .before .before .if1 .left), le-leb _ 4294967296 (c .before .before .before .if2 .left), lt-leb _ _ (rw (c .before .before .most .ensures .0) at (c .if3 .taken)))
+
+editions-kept-requires : tie.Need-editions-kept-requires
+editions-kept-requires c κs = search needs
+
+returns-4 : tie.Need-returns-4
+returns-4 c =
+    rw (le-leb _ 4 (c .before .before .before .before .before .before .if1 .left), le-leb _ 4294967296 (c .before .before .before .before .if2 .left), le-leb _ _ (rw (c .before .before .before .most .ensures .0) at (c .before .if3 .left)))
+    (c .editions-kept .ensures)
 
 pub front-fits-spec : {M : Type 1} → statement M
 front-fits-spec =
@@ -37,6 +45,8 @@ front-fits-spec =
     returns
     element-copy-out-if2
     returns-2
-    element-copy-out-result
     most-requires
-    returns-3)
+    element-copy-out-if3
+    returns-3
+    editions-kept-requires
+    returns-4)
