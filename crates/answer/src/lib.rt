@@ -1,4 +1,6 @@
 // The answers and events of a channel: document 01, "Bytes written".
+#![tactic(auto)]
+
 ghost use Rattle.std.specs.Prelude.{◌≡◌, cond, length};
 ghost use Rattle.message.specs.declared.RequestState.{RequestState};
 ghost use Rattle.answer.specs.Answers.{cause_names};
@@ -6,13 +8,13 @@ ghost use Rattle.answer.specs.declared.Kind.{Kind};
 ghost use Rattle.answer.specs.Causes.{joined, placed};
 
 // A status code.
-#[derive(Drop)]
+#[derive(Clone, Copy)]
 pub struct Status {
     pub code: u32,
 }
 
 // A response, but for the ids that it lists.
-#[derive(Drop)]
+#[derive(Clone, Copy)]
 pub struct Answer {
     pub id: u32,
     pub status: Status,
@@ -20,7 +22,7 @@ pub struct Answer {
 }
 
 // The kinds of channel.
-#[derive(Drop)]
+#[derive(Clone, Copy)]
 pub enum Kind {
     Synthesizer,
     Recognizer,

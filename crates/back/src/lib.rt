@@ -1,4 +1,6 @@
 // Going back to an edition of a channel's settings: document 02, K5.
+#![tactic(auto)]
+
 ghost use Rattle.std.specs.Prelude.{◌≡◌, true, List, [], ℕ};
 ghost use Rattle.synth.specs.Settings.{edition_at};
 ghost use Rattle.synth.specs.Channel.{shaped, sound};

@@ -1,10 +1,12 @@
 // What every call on a channel returns: document 01, "Refusal numbers" and "How tight the promises are".
+#![tactic(auto)]
+
 ghost use Rattle.std.specs.Prelude.{◌≡◌};
 ghost use Rattle.calls.specs.Promise.{refusing};
 
 // What a call returns: its number, the counts consumed and written, the last id seen, the channel, and the
 // edition that it makes.
-#[derive(Drop)]
+#[derive(Clone, Copy)]
 pub struct Handled {
     pub number: u32,
     pub consumed: usize,

@@ -1,4 +1,6 @@
 // A channel by value, its soundness and its opening: document 01, "Refusal numbers", and document 02, K1 and K5.
+#![tactic(auto)]
+
 ghost use Rattle.std.specs.Prelude.{◌≡◌, ◌≤◌, leb, List};
 ghost use Rattle.synth.specs.Kinds.{kind_of};
 ghost use Rattle.synth.specs.Channel.{shaped, with_queue, is, idle_unseen, first_above};
@@ -13,7 +15,7 @@ ghost use Rattle.channel.specs.Channel.{view, current_of, opened, kept};
 // What the caller keeps of a channel, but for the last id seen and the editions of its settings, which stand beside it:
 // each step that is handed a channel costs a copy. The state stands last: in front of the queue it would split each copy
 // in two.
-#[derive(Drop)]
+#[derive(Clone, Copy)]
 pub struct Channel {
     pub name: channelnames::Name,
     pub queue: queue::Queue,
@@ -21,7 +23,7 @@ pub struct Channel {
 }
 
 // What a request is judged on: the channel with its settings of the moment.
-#[derive(Drop)]
+#[derive(Clone, Copy)]
 pub struct Current {
     pub name: channelnames::Name,
     pub queue: queue::Queue,
@@ -30,7 +32,7 @@ pub struct Current {
 }
 
 // An opening's number, and its channel, on which no id was seen.
-#[derive(Drop)]
+#[derive(Clone, Copy)]
 pub struct Opened {
     pub number: u32,
     pub channel: Channel,

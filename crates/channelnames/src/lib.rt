@@ -1,4 +1,6 @@
 // A channel's name, and the kind that it tells: document 01, "Numbers", and document 02, K1.
+#![tactic(auto)]
+
 ghost use Rattle.std.specs.Prelude.{◌≡◌, true, false, ◌||◌, ◌&&◌, [], ◌++◌, ◌+◌, ◌-◌, ◌≤◌, ◌<◌, leb, length, take, replicate};
 ghost use Rattle.lists.specs.Lists.{run, same};
 ghost use Rattle.octets.specs.Octets.{is_letter, is_digit};
@@ -10,7 +12,7 @@ ghost use Rattle.channelnames.specs.Names.{name_of, kind_by, kept_name};
 pub const LONGEST: usize = 44;
 
 // A name as it is kept: the first `size` of `bytes`.
-#[derive(Drop)]
+#[derive(Clone, Copy)]
 pub struct Name {
     pub bytes: [u8; LONGEST],
     pub size: usize,

@@ -1,5 +1,7 @@
 // A channel saved as the 89 numbers that a C caller keeps. include/klarvesimo.h is the manual of their places. The
 // editions of its settings stand in them alone, and stay as they are unless a further one is made.
+#![tactic(auto)]
+
 ghost use Rattle.std.specs.Prelude.{◌≡◌, List, [], ◌∷◌, ◌++◌, map, true, cond, ◌+◌, ◌*◌, ◌≤◌, ◌<◌, length, take, drop};
 ghost use Rattle.std.proofs.Math.Option.{some};
 ghost use Rattle.synth.specs.Kinds.{most, state_number};

@@ -1,4 +1,6 @@
 // Client messages on a channel: document 01, "Refusal numbers" and "How tight the promises are".
+#![tactic(auto)]
+
 ghost use Rattle.std.specs.Prelude.{◌≡◌, true, ◌≤◌, length, List};
 ghost use Rattle.message.specs.Message.{InRange};
 ghost use Rattle.message.specs.StartLines.{start_line};

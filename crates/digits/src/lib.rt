@@ -1,11 +1,13 @@
 // Runs of digits, and the numbers that they write.
+#![tactic(auto)]
+
 ghost use Rattle.std.specs.Prelude.{◌≡◌, true, false, ◌+◌, ◌-◌, ◌≤◌, ◌<◌, length, drop};
 ghost use Rattle.octets.specs.Octets.{is_digit};
 ghost use Rattle.readers.specs.Readers.{number as number_of};
 ghost use Rattle.digits.specs.Steps.{scanned, at_most19, one_to19, run_from, digits_at};
 
 // What reading a number finds: the bytes end too soon, they are wrong, or the number and the position after it.
-#[derive(Drop)]
+#[derive(Clone, Copy)]
 pub enum Scan {
     Short,
     Wrong,
@@ -13,14 +15,14 @@ pub enum Scan {
 }
 
 // A run of digits: the number that it writes, and how many digits it has.
-#[derive(Drop)]
+#[derive(Clone, Copy)]
 pub struct Digits {
     pub value: u64,
     pub count: usize,
 }
 
 // A run of digits by where it ends, and whether the bytes end there while one more digit might come.
-#[derive(Drop)]
+#[derive(Clone, Copy)]
 struct Run {
     value: u64,
     next: usize,

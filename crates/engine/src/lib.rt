@@ -1,4 +1,6 @@
 // Engine reports on a channel: document 01, "Refusal numbers" and "How tight the promises are", and document 02, K1.
+#![tactic(auto)]
+
 ghost use Rattle.std.specs.Prelude.{◌≡◌, true, List, ◌∷◌, length};
 ghost use Rattle.answer.specs.declared.Kind.{Kind};
 ghost use Rattle.synth.specs.Channel.{shaped, sound};

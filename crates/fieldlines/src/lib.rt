@@ -1,5 +1,7 @@
 // One field, with all its lines: document 01, "Fields", and document 02, K2. Whoever reads fields takes the table of byte
 // classes once, and lends it.
+#![tactic(auto)]
+
 ghost use Rattle.std.specs.Prelude.{◌≡◌, Bool, ℕ, ◌+◌, ◌-◌, ◌≤◌, ◌<◌, length, get_or, drop, take};
 ghost use Rattle.lists.specs.Lists.{run};
 ghost use Rattle.octets.specs.Octets.{classes, Stands, is_blank, is_gap};
@@ -8,7 +10,7 @@ ghost use Rattle.message.specs.Fields.{trim_end, field_line};
 ghost use Rattle.fieldlines.specs.Steps.{line_of, ends_at, value_run, field_to};
 
 // The places of a field's name and value in the frame.
-#[derive(Drop)]
+#[derive(Clone, Copy)]
 pub struct Field {
     pub name: message::Span,
     pub value: message::Span,
@@ -162,7 +164,7 @@ fn folds_end(f: &[u8], class: &[u8; 256], at: usize) -> usize
 }
 
 // What a line is, and where the next one begins.
-#[derive(Drop)]
+#[derive(Clone, Copy)]
 pub enum Line {
     Malformed,
     Empty(usize),

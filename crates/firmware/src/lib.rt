@@ -1,4 +1,6 @@
 // The C face of framing and reading: numbers and buffers in, numbers out. include/klarvesimo.h is its manual.
+#![tactic(auto)]
+
 ghost use Rattle.std.specs.Prelude.{◌≡◌};
 ghost use Rattle.message.specs.StartLines.{start_line};
 ghost use Rattle.firmware.specs.Face.{frame_face, read_face, called};
@@ -42,7 +44,7 @@ pub extern "C" fn klarvesimo_read(s: &[u8], out: &mut [u64], consumed: &mut [u64
 }
 
 // A number, and the count consumed.
-#[derive(Drop)]
+#[derive(Clone, Copy)]
 struct Consumed {
     number: u32,
     consumed: u64,

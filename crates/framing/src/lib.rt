@@ -1,4 +1,6 @@
 // Cutting lent bytes into messages: document 01, "Framing".
+#![tactic(auto)]
+
 ghost use Rattle.std.specs.Prelude.{◌≡◌, [], ◌∷◌, drop};
 ghost use Rattle.readers.specs.Readers.{text as text_of};
 ghost use Rattle.readers.specs.Steps.{placed};
@@ -6,7 +8,7 @@ ghost use Rattle.framing.specs.Framing.{opening, framing, measured};
 ghost use Rattle.framing.specs.Steps.{text_after, number_after, value_of, front_of};
 
 // What an opening says: the version, and the length of the whole message.
-#[derive(Drop)]
+#[derive(Clone, Copy)]
 pub struct Opening {
     pub major: u64,
     pub minor: u64,
@@ -15,7 +17,7 @@ pub struct Opening {
 
 // What stands at the front of the lent bytes: a proper beginning of some opening, nothing that can become one, or an
 // opening: its version, the length that it states, and its own length.
-#[derive(Drop)]
+#[derive(Clone, Copy)]
 pub enum Front {
     Short,
     Wrong,
@@ -23,7 +25,7 @@ pub enum Front {
 }
 
 // Where the message at the front of the lent bytes ends; or why that is not known.
-#[derive(Drop)]
+#[derive(Clone, Copy)]
 pub enum Framing {
     More,
     NoMessage,

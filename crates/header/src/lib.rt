@@ -1,4 +1,6 @@
 // The fields of a frame and its body: document 01, "Fields" and judgement 2, and document 02, K5.
+#![tactic(auto)]
+
 ghost use Rattle.std.specs.Prelude.{◌≡◌, ◌+◌, ◌≤◌, ◌<◌, length, drop};
 ghost use Rattle.octets.specs.Octets.{classes};
 ghost use Rattle.message.specs.Message.{part as part_of};
@@ -16,7 +18,7 @@ pub const MOST_NAMES: usize = 16;
 // What stands after the start line. Where judgement 2 passes it: how many fields there are, the names that came as bits
 // of `mask`, the body, and the place of each name's value, by the name's number; of a number that came more than once,
 // the last one's. Else all is zero.
-#[derive(Drop)]
+#[derive(Clone, Copy)]
 pub struct Header {
     pub good: bool,
     pub count: usize,
@@ -26,7 +28,7 @@ pub struct Header {
 }
 
 // What a whole number's text says: a number of 1 to 19 digits, or none.
-#[derive(Drop)]
+#[derive(Clone, Copy)]
 pub enum Stated {
     None,
     Number(u64),
@@ -89,7 +91,7 @@ fn bad() -> Header
 
 // The next line, judged after `count` fields with the known names in `mask`: a field with its name, or where the body
 // begins. In a SET-PARAMS or a GET-PARAMS, as `params` says, more names count as known.
-#[derive(Drop)]
+#[derive(Clone, Copy)]
 enum Step {
     Bad,
     End(usize),

@@ -1,9 +1,11 @@
 // A list of request-ids as a field's value has it: document 01, judgement 6 and STOP.
+#![tactic(auto)]
+
 ghost use Rattle.std.specs.Prelude.{◌≡◌, cond, [], ◌∷◌, min, eqb, take};
 ghost use Rattle.idlist.specs.Named.{named_in, bits_from, in_range};
 
 // Which of some ids a list names, bit j for the id at j; or that the list is no list.
-#[derive(Drop)]
+#[derive(Clone, Copy)]
 pub enum Which {
     Illegal,
     Those(u64),

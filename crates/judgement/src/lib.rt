@@ -1,5 +1,7 @@
 // The order of judgement for a request: document 01, "The order of judgement for a request", and document 02,
 // K1 and K5. Judgements 6 to 11 are those of each method.
+#![tactic(auto)]
+
 ghost use Rattle.std.specs.Prelude.{◌≡◌, Bool, true, ◌&&◌, List, ℕ, ◌≤◌, eqb, length};
 ghost use Rattle.std.proofs.Math.Option.{some};
 ghost use Rattle.message.specs.Message.{Fields, request as request_line, part, on_fields};
@@ -22,7 +24,7 @@ ghost use Rattle.params.specs.Doing.{DoesOn};
 ghost use Rattle.judgement.specs.Judged.{from_fields, Gets, Judges};
 
 // What a request comes to, and the last id seen after it.
-#[derive(Drop)]
+#[derive(Clone, Copy)]
 pub struct Judged {
     pub last: synth::LastId,
     pub done: params::Done,

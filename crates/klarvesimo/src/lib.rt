@@ -1,5 +1,7 @@
 // The C face of a channel, kept by the caller as 89 numbers. include/klarvesimo.h is its manual; framing and reading
 // alone are in `firmware`.
+#![tactic(auto)]
+
 ghost use Rattle.std.specs.Prelude.{◌≡◌, ◌++◌, ◌≤◌, length, take, drop};
 ghost use Rattle.synth.specs.Calls.{input, report as report_of};
 ghost use Rattle.klarvesimo.specs.Face.{open_face, call_face, counted, reported, back_face, held_face, listed};

@@ -1,12 +1,14 @@
 // Levels between 0 and 1 as a field's value has them, and the single-precision number of one that is kept by its
 // millionths: document 02, K1 and K5.
+#![tactic(auto)]
+
 ghost use Rattle.std.specs.Prelude.{◌≡◌, ◌+◌, ◌-◌, ◌*◌, ◌^◌, ◌≤◌, ◌<◌};
 ghost use Rattle.synth.specs.Levels.{single};
 ghost use Rattle.levels.specs.Reading.{kept, level_found};
 ghost use Rattle.levels.specs.Steps.{is_first, level_by};
 
 // What a text says as a level: none, or its millionths and the single-precision number.
-#[derive(Drop)]
+#[derive(Clone, Copy)]
 pub enum Found {
     Illegal,
     Of(synth::Level),

@@ -1,1 +1,2 @@
 // Theory alone: lists, for the definitions and proofs of the crates above.
+#![tactic(auto)]

@@ -2,6 +2,8 @@
 // their places. Numbers that no sound channel has become a queue of 17 or a name of 45 bytes, so a channel that is not
 // sound: there is no flag to look at. The name comes first: its kind says what the other numbers are. Of the editions
 // the newest is loaded; the older ones stay in the numbers.
+#![tactic(auto)]
+
 ghost use Rattle.std.specs.Prelude.{◌≡◌, true, ◌&&◌, cond, ◌+◌, ◌≤◌, ◌<◌, leb, ltb, get_or, List};
 ghost use Rattle.std.proofs.Math.Option.{some};
 ghost use Rattle.synth.specs.Settings.{settings};
@@ -33,7 +35,7 @@ ghost use Rattle.loading.specs.Steps.{
 };
 
 // The channel, the last id seen on it, and its settings of the moment.
-#[derive(Drop)]
+#[derive(Clone, Copy)]
 pub struct Loaded {
     pub last: synth::LastId,
     pub channel: channel::Channel,

@@ -1,4 +1,6 @@
 // A frame and a message as the numbers that C reads. include/klarvesimo.h has their layout.
+#![tactic(auto)]
+
 ghost use Rattle.std.specs.Prelude.{◌≡◌, [], ◌∷◌, ◌++◌, ◌+◌, ◌≤◌, length, take, drop};
 ghost use Rattle.std.proofs.Math.Seq.{paste};
 ghost use Rattle.message.specs.Reading.{fields_from};
@@ -47,7 +49,7 @@ fn state_number(s: message::RequestState) -> u64
 }
 
 // The numbers of a start line, but for the version.
-#[derive(Drop)]
+#[derive(Clone, Copy)]
 pub struct StartNumbers {
     pub kind: u64,
     pub name: usize,

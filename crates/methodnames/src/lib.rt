@@ -1,4 +1,6 @@
 // Which method a request names: document 01, "Start lines" and judgement 7, and document 02, K1 and K5.
+#![tactic(auto)]
+
 ghost use Rattle.std.specs.Prelude.{◌≡◌};
 ghost use Rattle.synth.specs.Request.{method_of, or_else, is_params};
 ghost use Rattle.synth.specs.Kinds.{method_in};

@@ -1,5 +1,7 @@
 // What a request does that passed judgement 5, method by method: document 01, judgements 6 to 11 and "States and
 // queue", and document 02, K1 and K5. SET-PARAMS and GET-PARAMS are in `params`.
+#![tactic(auto)]
+
 ghost use Rattle.std.specs.Prelude.{◌≡◌, true, false, ◌≤◌, length};
 ghost use Rattle.std.proofs.Math.Option.{some};
 ghost use Rattle.message.specs.Folds.{joined};

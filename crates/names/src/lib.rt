@@ -1,5 +1,7 @@
 // Known field names and the mask of those that came: document 01, "Fields" and judgement 2, and
 // document 02, K1 and K5.
+#![tactic(auto)]
+
 ghost use Rattle.std.specs.Prelude.{◌≡◌};
 ghost use Rattle.octets.specs.Octets.{bytes, alike};
 ghost use Rattle.message.specs.Known.{or_else, known_of, index_of};

@@ -1,4 +1,6 @@
 // What a byte may be: document 01, "Fields".
+#![tactic(auto)]
+
 ghost use Rattle.std.specs.Prelude.{◌≡◌, ◌||◌, ◌+◌, ◌≤◌, length, drop};
 ghost use Rattle.lists.specs.Lists.{same};
 ghost use Rattle.octets.specs.Octets.{is_digit, lowered as lowered_of, alike as alike_of, classes, is_capital, is_letter, within};

@@ -1,11 +1,13 @@
 // What a request comes to, whatever its method: document 01, "States and queue".
+#![tactic(auto)]
+
 ghost use Rattle.std.specs.Prelude.{◌≡◌, cond};
 ghost use Rattle.message.specs.declared.RequestState.TheVariants.{Complete};
 ghost use Rattle.queue.specs.Queue.{no_ids};
 ghost use Rattle.outcomes.specs.Outcomes.{outcome};
 
 // What is answered, the ids that the answer lists, and the channel's state and queue afterwards.
-#[derive(Drop)]
+#[derive(Clone, Copy)]
 pub struct Outcome {
     pub answer: answer::Answer,
     pub listed: queue::Ids,

@@ -1,4 +1,6 @@
 // Responses and events written into a lent output: document 01, "Bytes written" and refusal 7.
+#![tactic(auto)]
+
 ghost use Rattle.std.specs.Prelude.{◌≡◌, ◌+◌, ◌≤◌, map, length};
 ghost use Rattle.writers.specs.Buffer.{Wrote};
 ghost use Rattle.answer.specs.Written.{written, written_all};
@@ -8,7 +10,7 @@ ghost use Rattle.sizes.specs.Steps.{telling_of};
 ghost use Rattle.output.specs.Delivery.{counted, delivered};
 
 // What a write returns: the count of bytes written, or that they are more than the lent output holds.
-#[derive(Drop)]
+#[derive(Clone, Copy)]
 pub enum Written {
     Count(usize),
     TooLong,

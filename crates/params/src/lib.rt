@@ -1,4 +1,6 @@
 // What a SET-PARAMS or a GET-PARAMS does that passed judgement 5: document 02, K5.
+#![tactic(auto)]
+
 ghost use Rattle.std.specs.Prelude.{◌≡◌, true, List, ℕ};
 ghost use Rattle.answer.specs.declared.Kind.{Kind};
 ghost use Rattle.synth.specs.Settings.{settings, or_all};
@@ -15,21 +17,21 @@ ghost use Rattle.params.specs.declared.Effect.{Effect};
 
 // What a request comes to beside its answer: nothing, a further edition, or settings that its answer tells, by the bits
 // of their names.
-#[derive(Drop)]
+#[derive(Clone, Copy)]
 pub enum Effect {
     Nothing,
     Set(synth::Edition),
     Tell(u16),
 }
 
-#[derive(Drop)]
+#[derive(Clone, Copy)]
 pub struct Done {
     pub outcome: outcomes::Outcome,
     pub effect: Effect,
 }
 
 // The sorts of settings.
-#[derive(Drop)]
+#[derive(Clone, Copy)]
 enum Sort {
     Flag,
     Millis,
@@ -37,14 +39,14 @@ enum Sort {
 }
 
 // A setting that is taken, or a value that is not legal for it.
-#[derive(Drop)]
+#[derive(Clone, Copy)]
 enum Taken {
     Illegal,
     As(synth::Setting),
 }
 
 // An edition that is made, or a value that is not legal.
-#[derive(Drop)]
+#[derive(Clone, Copy)]
 enum Changed {
     Illegal,
     To(synth::Edition),

@@ -1,5 +1,7 @@
 // The pieces of a response or an event, each written into a lent output that has room for it: document 01, "Bytes
 // written".
+#![tactic(auto)]
+
 ghost use Rattle.std.specs.Prelude.{[], ◌++◌, ◌+◌, ◌≤◌, length, get_or};
 ghost use Rattle.octets.specs.Octets.{bytes, crlf};
 ghost use Rattle.writers.specs.Decimal.{width};

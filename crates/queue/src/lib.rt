@@ -1,4 +1,6 @@
 // The queue of a channel, and its state: document 01, "States and queue", and document 02, K1.
+#![tactic(auto)]
+
 ghost use Rattle.std.specs.Prelude.{◌≡◌, true, false, ◌&&◌, List, [], ◌∷◌, ◌++◌, ◌<◌, ◌≤◌, leb, length};
 ghost use Rattle.lists.specs.Lists.{bit, is_empty, ascends};
 ghost use Rattle.synth.specs.Kinds.{most};
@@ -17,7 +19,7 @@ pub const MOST_RECOGNIZED: usize = 8;
 // beside. A number is an id doubled, and one more where barge-in kills the request: an array of numbers is cleared and
 // moved as a whole, one of structs field by field. The count stands between the arrays: side by side they would be
 // moved as one, by a call, and a synthesizer's thresholds could not be left out.
-#[derive(Drop)]
+#[derive(Clone, Copy)]
 pub struct Queue {
     pub numbers: [u64; MOST],
     pub count: usize,
@@ -25,14 +27,14 @@ pub struct Queue {
 }
 
 // Ids that an answer lists: the first `count` of `ids`.
-#[derive(Drop)]
+#[derive(Clone, Copy)]
 pub struct Ids {
     pub ids: [u32; MOST],
     pub count: usize,
 }
 
 // The ids of those that ended, and the queue of those that remain.
-#[derive(Drop)]
+#[derive(Clone, Copy)]
 pub struct Ended {
     pub listed: Ids,
     pub queue: Queue,

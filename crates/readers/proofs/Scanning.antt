@@ -6,6 +6,7 @@ use Prim.Native.Nat.{ℕ, ◌+◌, ◌<◌, ◌≤◌}
 use native.Mathlib.Nat.{add_assoc, add-zero}
 use lib.ListN.{length, get_or, drop, drop_of_length-le}
 use borrow.Author.Tests.{eq-eqb, ne_eqb}
+use lib.Dec.{eqb}
 use Rattle.readers.specs.Readers.{Read, short, wrong, got, after, text}
 use Rattle.readers.specs.Steps.{placed}
 use Rattle.readers.specs.declared.Place.{Place}
@@ -26,9 +27,9 @@ module _ (s t : List ℕ) (i k : ℕ) where
   text_short h l = rw (here t k h, drop_of_length-le s l)
 
   pub text_wrong : k < length t → i < length s → (get_or t k 0 ≡ get_or s i 0 → ⊥) → placed i (text (drop k t) (drop i s)) ≡ Place.Wrong
-  text_wrong h l e = rw (here t k h) (ap (placed i) (no_at _ _ _ s i l (ne_eqb _ _ e)))
+  text_wrong h l e = rw (here t k h) (ap (placed i) {y = wrong} (no_at (eqb (get_or t k 0)) (λ _. text (drop (k + 1) t)) _ s i l (ne_eqb _ _ e)))
 
   pub text_step : k < length t → i < length s → get_or t k 0 ≡ get_or s i 0
       → placed i (text (drop k t) (drop i s)) ≡ placed (i + 1) (text (drop (k + 1) t) (drop (i + 1) s))
   text_step h l e =
-      rw (here t k h) (ap (placed i) (yes_at _ _ _ s i l (eq-eqb _ _ e)) ∙ placed_after i (text (drop (k + 1) t) (drop (i + 1) s)))
+      rw (here t k h) (ap (placed i) (yes_at (eqb (get_or t k 0)) (λ _. text (drop (k + 1) t)) wrong s i l (eq-eqb _ _ e)) ∙ placed_after i (text (drop (k + 1) t) (drop (i + 1) s)))

@@ -1,11 +1,13 @@
 // Texts read from bytes: the steps that framing and message reading are made of.
+#![tactic(auto)]
+
 ghost use Rattle.std.specs.Prelude.{◌≡◌, ◌+◌, ◌≤◌, length, drop};
 ghost use Rattle.readers.specs.Readers.{text as text_of};
 ghost use Rattle.readers.specs.Words.{starts, is_crlf};
 ghost use Rattle.readers.specs.Steps.{placed};
 
 // What reading a text finds: the bytes end too soon, they are wrong, or the position after the text.
-#[derive(Drop)]
+#[derive(Clone, Copy)]
 pub enum Place {
     Short,
     Wrong,

@@ -1,4 +1,6 @@
 // The C face of trace files: document 02, K7. include/klarvesimo.h is its manual.
+#![tactic(auto)]
+
 ghost use mathlib.Core.Path.{◌≡◌};
 ghost use Rattle.recorder.specs.Face.{message_face, record_face, finish_face};
 

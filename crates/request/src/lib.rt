@@ -1,5 +1,7 @@
 // What the fields of a request say, asked for by name: document 01, "Fields", and judgements 2, 3, 6, 9 and 11, and
 // document 02, K5.
+#![tactic(auto)]
+
 ghost use Rattle.std.specs.Prelude.{◌≡◌};
 ghost use Rattle.message.specs.Message.{part, on_fields};
 ghost use Rattle.message.specs.Reading.{fields_from};

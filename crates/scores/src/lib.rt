@@ -1,4 +1,6 @@
 // What an engine report counts as, by its score: document 02, K1.
+#![tactic(auto)]
+
 ghost use Rattle.std.specs.Prelude.{◌≡◌, ◌≤◌};
 ghost use Rattle.std.specs.Float.Ieee.{lt};
 ghost use Rattle.synth.specs.Levels.{single};

@@ -1,5 +1,7 @@
 // The settings of the moment, and the edition that becomes a further one: document 02, K5. The editions themselves stand
 // in the caller's numbers.
+#![tactic(auto)]
+
 ghost use Rattle.std.specs.Prelude.{◌≡◌};
 ghost use Rattle.synth.specs.States.{kill_set, level_set};
 
@@ -7,7 +9,7 @@ ghost use Rattle.synth.specs.States.{kill_set, level_set};
 pub const MOST: usize = 4;
 
 // The edition that becomes a further one, where there is one.
-#[derive(Drop)]
+#[derive(Clone, Copy)]
 pub enum Further {
     Nothing,
     Of(synth::Edition),

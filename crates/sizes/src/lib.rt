@@ -1,5 +1,7 @@
 // How many bytes responses and events have, counted up to one more than the lent output holds: document 01, "Bytes
 // written" and refusal 7.
+#![tactic(auto)]
+
 ghost use Rattle.std.specs.Prelude.{◌≡◌, ◌+◌, ◌^◌, ◌≤◌, ◌<◌, min, map, length};
 ghost use Rattle.writers.specs.Decimal.{width};
 ghost use Rattle.writers.specs.SelfLength.{self_length};

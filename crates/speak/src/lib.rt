@@ -1,5 +1,7 @@
 // What a SPEAK or a RECOGNIZE does that passed judgement 5: document 01, judgements 6, 9 and 10 and "States and queue",
 // and document 02, K1 and K5.
+#![tactic(auto)]
+
 ghost use Rattle.std.specs.Prelude.{◌≡◌, true, false, List, ℕ, ◌≤◌};
 ghost use Rattle.synth.specs.Settings.{is_edition_of};
 ghost use Rattle.synth.specs.Request.{Request, opens, ignores_any};

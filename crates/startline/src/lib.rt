@@ -1,4 +1,6 @@
 // Start lines: document 01, "Start lines", and which of them ask for settings: document 02, K5.
+#![tactic(auto)]
+
 ghost use Rattle.std.specs.Prelude.{◌≡◌, ◌||◌, drop};
 ghost use Rattle.lists.specs.Lists.{same};
 ghost use Rattle.octets.specs.Octets.{bytes};
@@ -8,7 +10,7 @@ ghost use Rattle.startline.specs.StartLine.{start_of, started_of};
 ghost use Rattle.startline.specs.Rules.{said, told, from_status, from_id, behind_name, from_name};
 
 // What a start line says; a name is a part of the frame.
-#[derive(Drop)]
+#[derive(Clone, Copy)]
 pub enum Start {
     Request(message::Span, u64),
     Response(u64, u64, message::RequestState),
@@ -16,7 +18,7 @@ pub enum Start {
 }
 
 // A start line, and where the lines after it begin.
-#[derive(Drop)]
+#[derive(Clone, Copy)]
 pub enum StartLine {
     Malformed,
     Line(Start, usize),

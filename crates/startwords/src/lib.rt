@@ -1,4 +1,6 @@
 // The words of a start line: document 01, "Start lines".
+#![tactic(auto)]
+
 ghost use Rattle.std.specs.Prelude.{◌≡◌, ◌+◌, drop};
 ghost use Rattle.lists.specs.Lists.{run};
 ghost use Rattle.startwords.specs.Runs.{is_naming, id_at, begins, last_at};
@@ -7,14 +9,14 @@ ghost use Rattle.startwords.specs.Runs.{is_naming, id_at, begins, last_at};
 const GREATEST_ID: u64 = 4294967295;
 
 // A request-id, and the position after it.
-#[derive(Drop)]
+#[derive(Clone, Copy)]
 pub enum Id {
     Wrong,
     Got(u64, usize),
 }
 
 // The state that ends a line, and where the lines after it begin.
-#[derive(Drop)]
+#[derive(Clone, Copy)]
 pub enum Last {
     Wrong,
     Got(message::RequestState, usize),

@@ -1,7 +1,8 @@
 // A channel of either kind: its states and queue, the order of judgement, and the calls on it.
+#![tactic(auto)]
 
 // A synthesizer is idle, speaking or paused, a recognizer idle, recognizing or recognized.
-#[derive(Drop)]
+#[derive(Clone, Copy)]
 pub enum State {
     Idle,
     Speaking,
@@ -11,7 +12,7 @@ pub enum State {
 }
 
 // The methods of document 01, of K1 and of K5; every other name is unknown.
-#[derive(Drop)]
+#[derive(Clone, Copy)]
 pub enum Method {
     Speak,
     Stop,
@@ -28,7 +29,7 @@ pub enum Method {
 
 // An outstanding request: its request-id, whether barge-in kills it, and the threshold of its score, in millionths: the
 // single-precision number is that of a level, and is worked out where the score is compared with it.
-#[derive(Drop)]
+#[derive(Clone, Copy)]
 pub struct Entry {
     pub id: u32,
     pub kill: bool,
@@ -36,14 +37,14 @@ pub struct Entry {
 }
 
 // A level between 0 and 1, kept twice: by its millionths and as a single-precision number.
-#[derive(Drop)]
+#[derive(Clone, Copy)]
 pub struct Level {
     pub millionths: u32,
     pub single: f32,
 }
 
 // A setting: none, a yes or no, a whole number of milliseconds, or a level.
-#[derive(Drop)]
+#[derive(Clone, Copy)]
 pub enum Setting {
     Unset,
     Flag(bool),
@@ -52,7 +53,7 @@ pub enum Setting {
 }
 
 // An edition of the settings of either kind of channel; those of the other kind are unset.
-#[derive(Drop)]
+#[derive(Clone, Copy)]
 pub struct Edition {
     pub kill: Setting,
     pub fetch: Setting,
@@ -62,7 +63,7 @@ pub struct Edition {
 }
 
 // The last request-id seen on a channel.
-#[derive(Drop)]
+#[derive(Clone, Copy)]
 pub enum LastId {
     NoneSeen,
     Seen(u32),

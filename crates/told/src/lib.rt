@@ -1,4 +1,6 @@
 // The fields that tell settings, as text: document 02, K5.
+#![tactic(auto)]
+
 ghost use Rattle.std.specs.Prelude.{◌≡◌, [], map, ◌+◌, ◌≤◌, length, take};
 ghost use Rattle.lists.specs.Lists.{put};
 ghost use Rattle.writers.specs.Buffer.{Wrote};
@@ -20,7 +22,7 @@ const SENSITIVITY_LEVEL: u16 = 2048;
 
 // Fields, one behind the other: the first `count` of the bytes. The longest, three of a recognizer whose values have 20
 // bytes each, have 122.
-#[derive(Drop)]
+#[derive(Clone, Copy)]
 pub struct Fields {
     pub bytes: [u8; 128],
     pub count: usize,

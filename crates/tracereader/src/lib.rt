@@ -1,4 +1,6 @@
 // Reading a trace file: document 02, K7.
+#![tactic(auto)]
+
 ghost use mathlib.Core.Path.{◌≡◌};
 ghost use Prim.Native.Nat.{◌+◌, ◌*◌, ◌≤◌, ◌<◌};
 ghost use lib.ListN.{length};
@@ -7,7 +9,7 @@ ghost use Rattle.traces.specs.Steps.{frame_size};
 ghost use Rattle.tracereader.specs.Steps.{entries_agree, judged, looked_up};
 
 // What a file is: the number of a refusal, or where its index begins and how many messages it has.
-#[derive(Drop)]
+#[derive(Clone, Copy)]
 pub enum Judged {
     Refused(u32),
     Good(usize, usize),

@@ -1,4 +1,6 @@
 // Recording and finishing a trace: document 02, K7.
+#![tactic(auto)]
+
 ghost use mathlib.Core.Path.{◌≡◌};
 ghost use mathlib.Core.Bool.{true};
 ghost use Prim.Native.Nat.{◌+◌, ◌*◌, ◌≤◌};

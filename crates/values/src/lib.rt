@@ -1,5 +1,7 @@
 // What the value of a field that acts in a request says: document 01, "Fields", and judgements 6 and 9, and
 // document 02, K1 and K5.
+#![tactic(auto)]
+
 ghost use Rattle.std.specs.Prelude.{◌≡◌, true};
 ghost use Rattle.std.proofs.Math.Option.{some};
 ghost use Rattle.synth.specs.Levels.{level_in};
@@ -9,28 +11,28 @@ ghost use Rattle.values.specs.Values.{given_of, kill_of, millionths_in, threshol
 ghost use Rattle.values.specs.Steps.{meets, given_by};
 
 // The value of a field that acts in the request's method: its place in the frame, where the field came.
-#[derive(Drop)]
+#[derive(Clone, Copy)]
 pub enum Given {
     Nothing,
     At(message::Span),
 }
 
 // What Kill-On-Barge-In says: whether barge-in kills the request, or neither `true` nor `false`.
-#[derive(Drop)]
+#[derive(Clone, Copy)]
 pub enum Kill {
     Illegal,
     Of(bool),
 }
 
 // What Confidence-Threshold says: a level in millionths, or none.
-#[derive(Drop)]
+#[derive(Clone, Copy)]
 pub enum Threshold {
     Illegal,
     Of(u32),
 }
 
 // A judgement passes, or fails with a status.
-#[derive(Drop)]
+#[derive(Clone, Copy)]
 pub enum Verdict {
     Passes,
     Fails(answer::Status),

@@ -1,11 +1,13 @@
 // Whose request it is, told from the start line alone: document 02, K3.
+#![tactic(auto)]
+
 ghost use Rattle.std.specs.Prelude.{◌≡◌, ◌&&◌, min, ltb, length, drop};
 ghost use Rattle.startline.specs.StartLine.{start_of};
 ghost use Rattle.whose.specs.Whose.{whose, id_in, whose_face};
 ghost use Rattle.whose.specs.Steps.{has_line, opened};
 
 // The request-id of the message at the front of the lent bytes; or why it is not known.
-#[derive(Drop)]
+#[derive(Clone, Copy)]
 pub enum Whose {
     More,
     NoMessage,

@@ -1,4 +1,6 @@
 // How many digits a number has, the length that counts its own, and bytes and digits written into a lent output.
+#![tactic(auto)]
+
 ghost use Rattle.std.specs.Prelude.{◌≡◌, ◌+◌, ◌-◌, ◌^◌, ◌≤◌, min, length};
 ghost use Rattle.writers.specs.Decimal.{digits, width as width_of, three_digits};
 ghost use Rattle.writers.specs.SelfLength.{self_length};

@@ -1,5 +1,7 @@
 // The writers called from C, one message a call, for the comparison with the second program and the benchmark; the
 // product's own face has calls on a channel instead.
+#![tactic(auto)]
+
 ghost use Rattle.std.specs.Prelude.{◌≡◌};
 ghost use Rattle.writing.specs.Writing.{told, state_at, wrote_response, wrote_event};
 
