@@ -34,25 +34,25 @@ overflow_add-result c =
     omega (arith, crlf_in a.f.now a.at (sym c.crlf.ensures ∙ c.if-crlf.true))
 
 pub returns-then-crlf : goal.returns-then-crlf
-returns-then-crlf c =
+returns-then-crlf c t =
     let a = c.args in
     ap line_of (sym (line_empty a.at (drop a.at a.f.now) (sym c.crlf.ensures ∙ c.if-crlf.true)))
 
 pub returns-then-n-at : goal.returns-then-n-at
-returns-then-n-at c =
+returns-then-n-at c t =
     let a = c.args in
     ap line_of (sym (line_none a.f.now a.at _
     (c.class_end-n.ensures.2 t is_name name_bit) c.if-n-at.true
     (sym c.crlf.ensures ∙ c.if-crlf.false)))
 
 pub returns-then-n-at-gt64 : goal.returns-then-n-at-gt64
-returns-then-n-at-gt64 c =
+returns-then-n-at-gt64 c t =
     let a = c.args in
     ap line_of (sym (line_long a.f.now a.at _
     (c.class_end-n.ensures.2 t is_name name_bit) c.if-n-at.false c.if-n-at-gt64.true))
 
 pub returns-then-not-has : goal.returns-then-not-has
-returns-then-not-has c =
+returns-then-not-has c t =
     let a = c.args in
     ap line_of (sym (line_colon a.f.now a.at _
     (c.class_end-n.ensures.2 t is_name name_bit) c.if-n-at.false
@@ -76,7 +76,7 @@ folded-requires c =
     )
 
 pub returns-then-not-ends : goal.returns-then-not-ends
-returns-then-not-ends c =
+returns-then-not-ends c t =
     let a = c.args in
     c.folded.ensures t ∙ ap line_of (sym (line_folded a.f.now a.at _
     (c.class_end-n.ensures.2 t is_name name_bit)
@@ -93,7 +93,7 @@ pub overflow_add-result-2 : goal.overflow_add-result-2
 overflow_add-result-2 c = omega (arith, inside (goal.at.overflow_add-result-2 c).After-class_end-end)
 
 pub returns : goal.returns
-returns c =
+returns c t =
     let a = c.args in
     ap line_of (sym (line_field a.f.now a.at _
     (c.class_end-n.ensures.2 t is_name name_bit)

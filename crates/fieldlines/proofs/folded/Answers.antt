@@ -6,14 +6,14 @@ use Rattle.fieldlines.proofs.Lining.{field_open, field_done}
 use Rattle.fieldlines.proofs.folded.Goals as goal
 
 pub returns-then-not-ends : goal.returns-then-not-ends
-returns-then-not-ends c =
+returns-then-not-ends c t =
     let a = c.args in
     let next = c.folds_end-next.result in
     ap line_of (sym (ap (field_to a.f.now a.at a.n) (sym (c.folds_end-next.ensures.2 t))
     ∙ field_open a.f.now a.at a.n next (sym c.ends.ensures ∙ c.if-not-ends.true)))
 
 pub returns : goal.returns
-returns c =
+returns c t =
     let a = c.args in
     let next = c.folds_end-next.result in
     ap line_of (sym (ap (field_to a.f.now a.at a.n)

@@ -1,0 +1,13 @@
+-- `channelnames::word` counts the letters and digits at the front. The loop's invariant: what is passed and what the run has left make the whole run.
+-- The measure is what is left of the name. Assumes nothing.
+use Prim.Native.Nat.{◌+◌, ◌-◌, ◌≤◌}
+use mathlib.Core.Path.{◌≡◌}
+use lib.ListN.{length, drop}
+use Rattle.lists.specs.Lists.{run}
+use Rattle.channelnames.proofs.word.Given as goal
+
+abbrev pub invariant-loop-i : goal.invariant-loop-i
+invariant-loop-i l = (l.i ≤ length l.name) × (run test l.name ≡ l.i + run test (drop l.i l.name))
+
+abbrev pub decreases-loop-i : goal.decreases-loop-i
+decreases-loop-i l = length l.name - l.i
