@@ -11,7 +11,7 @@ use lib.Bits.{bit_or}
 use lib.Dec.{eqb, leb, lit≤}
 use lib.ListN.{length, take, drop, get_or, length-append, length-drop, drop_of_length-le}
 use lib.Seq.{drop-drop, get_or-drop}
-use borrow.Author.Tests.{eqb-true, eqb-false, eq-eqb, ne_eqb, leb-true, le-leb, lt-leb, not-true, not-false}
+use borrow.Author.Tests.{eqb-true, eqb-false, eq-eqb, ne_eqb, leb-true, le-leb, lt-leb}
 use Rattle.lists.specs.Lists.{all, run}
 use Rattle.lists.proofs.Scans.{all_append}
 use Rattle.lists.proofs.Tests.{both, choose}
@@ -229,23 +229,23 @@ module _ {ids v : List ℕ} {bits i : ℕ} (m : Midway ids v bits i) (d : Digits
       ∙ behind
 
   module _ {r : Bool} (q : r ≡ in_range d.value d.count) where
-    pub wrong_id : not r ≡ true → Illegal ≡ named_in v ids
+    pub wrong_id : r ≡ false → Illegal ≡ named_in v ids
     wrong_id n =
-        sym (no_id_left ids bits d.value d.count (drop end v) (sym q ∙ not-true r n)
+        sym (no_id_left ids bits d.value d.count (drop end v) (sym q ∙ n)
         (λ h. tenth (ap is_digit (ap (λ k. get_or v k 0) (sym (add-zero end)) ∙ sym (get_or-drop end v 0 0)) ∙ h)))
         ∙ behind
 
-    module _ (n : not r ≡ false) where
+    module _ (n : r ≡ true) where
       pub in_range_lem : d.value ≤ 4294967295
       in_range_lem =
-          let (some, least) = both (leb 1 d.count) (leb d.value 4294967295) (sym q ∙ not-false r n) in
+          let (some, least) = both (leb 1 d.count) (leb d.value 4294967295) (sym q ∙ n) in
           leb-true d.value 4294967295 least
 
       module _ {p : ℕ} (there : p ≡ found ids (d.value ∷ [])) where
         pub last_id : length v ≤ end → Those (bit_or bits p) ≡ named_in v ids
-        last_id h = rw (there, ← behind, drop_of_length-le v h, ← q, not-false r n, left)
+        last_id h = rw (there, ← behind, drop_of_length-le v h, ← q, n, left)
 
         pub next_id : end < length v → get_or v end 0 ≡ 44 → Midway ids v (bit_or bits p) (end + 1)
         next_id h c =
             let comma = eq-eqb (get_or v end 0) 44 c in
-            record { same = rw (there, ← behind, here v end h, comma, ← q, not-false r n, left) }
+            record { same = rw (there, ← behind, here v end h, comma, ← q, n, left) }

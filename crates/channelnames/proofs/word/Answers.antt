@@ -1,15 +1,10 @@
 -- `channelnames::word` counts the letters and digits at the front. The loop's invariant: what is passed and what the run has left make the whole run.
 -- The measure is what is left of the name. Assumes nothing.
-use Prim.Native.Nat.{ℕ}
 use mathlib.Core.Path.{sym, ◌∙◌}
-use mathlib.Core.Bool.{Bool, ◌||◌}
 use native.Mathlib.Omega.{arith}
-use Rattle.octets.specs.Octets.{is_letter, is_digit}
 use Rattle.readers.proofs.Positions.{run_end, run_stop, run_step}
+use Rattle.channelnames.proofs.word.Invariants.{test}
 use Rattle.channelnames.proofs.word.Goals as goal
-
-abbrev test : ℕ → Bool
-test b = is_letter b || is_digit b
 
 pub returns-then-not-is_letter_or_digit : goal.returns-then-not-is_letter_or_digit
 returns-then-not-is_letter_or_digit c =

@@ -21,11 +21,12 @@ colon c = sym c.has.ensures ∙ c.if-not-has.false
 
 -- so the value's bytes end inside the frame
 inside : (c : After-class_end-end)
+    → starts 58 (drop c.class_end-n.result c.args.f.now) ≡ true
     → c.class_end-end.result ≤ length c.args.f.now
-inside c =
+inside c h =
     let f = c.args.f.now in
     let n = c.class_end-n.result in
-    let there = starts_in 58 f n (colon c.before.before) in
+    let there = starts_in 58 f n h in
     c.class_end-end.ensures.1 (c.class_end_by_one-v.ensures.1 (omega (arith, there)))
 
 pub overflow_add-result : goal.overflow_add-result
@@ -64,7 +65,7 @@ overflow_add-n c =
     omega (arith, starts_in 58 f c.class_end-n.result (colon (goal.at.overflow_add-n c).Else-not-has))
 
 pub ends-requires : goal.ends-requires
-ends-requires c = inside (goal.at.ends-requires c).After-class_end-end
+ends-requires c = inside (goal.at.ends-requires c).After-class_end-end (colon (goal.at.ends-requires c).Else-not-has)
 
 pub folded-requires : goal.folded-requires
 folded-requires c =
@@ -72,7 +73,7 @@ folded-requires c =
     let e = c.class_end-end.ensures in (
       c.class_end-n.ensures.0,
       omega (arith, v.0, e.0),
-      inside (goal.at.folded-requires c).After-class_end-end,
+      inside (goal.at.folded-requires c).After-class_end-end (colon (goal.at.folded-requires c).Else-not-has),
     )
 
 pub returns-then-not-ends : goal.returns-then-not-ends
@@ -87,10 +88,10 @@ returns-then-not-ends c t =
     _ (c.class_end-end.ensures.2 t is_value value_bit)))
 
 pub solid_end-last-requires : goal.solid_end-last-requires
-solid_end-last-requires c = (c.class_end-end.ensures.0, inside (goal.at.solid_end-last-requires c).After-class_end-end)
+solid_end-last-requires c = (c.class_end-end.ensures.0, inside (goal.at.solid_end-last-requires c).After-class_end-end (colon (goal.at.solid_end-last-requires c).Else-not-has))
 
 pub overflow_add-result-2 : goal.overflow_add-result-2
-overflow_add-result-2 c = omega (arith, inside (goal.at.overflow_add-result-2 c).After-class_end-end)
+overflow_add-result-2 c = omega (arith, inside (goal.at.overflow_add-result-2 c).After-class_end-end (colon (goal.at.overflow_add-result-2 c).Else-not-has))
 
 pub returns : goal.returns
 returns c t =

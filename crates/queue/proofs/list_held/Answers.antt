@@ -36,7 +36,7 @@ returns c =
     let left = c.if-count-gt-MOST.false in
     let e : c.loop-i.i ≡ q.count = omega arith in record {
   lists = λ few. record {
-        shown = (rw e (goal.at.returns c).At-loop-i c.loop-i.invariant.4) ∙ sym (ap ids_of (within q left) ∙ entry_ids q.count q.numbers q.thresholds (as_many q _ c.well_formed.0));
+        shown = (rw e at c.loop-i.invariant.4) ∙ sym (ap ids_of (within q left) ∙ entry_ids q.count q.numbers q.thresholds (as_many q _ c.well_formed.0));
         counted = sym (length-map (list_of q) _ ∙ count_is q _ c.well_formed.0);
         few = left;
       };

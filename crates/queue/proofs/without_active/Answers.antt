@@ -49,5 +49,5 @@ returns c =
     let all : l.i ≡ q.count - 1 = omega (arith, c.loop-i-test.false, l.invariant.0) in
     λ e queue h. λ room.
     within _ (omega arith)
-    ∙ (rw all (goal.at.returns c).Start l.invariant.6)
+    ∙ (rw all at l.invariant.6)
     ∙ behind_first (q.count - 1) (entries_in q) e queue (ap (λ (n : ℕ). take n (entries_in q)) some ∙ sym (within q few) ∙ h)

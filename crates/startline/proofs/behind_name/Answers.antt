@@ -23,11 +23,12 @@ left c =
 -- at the last word
 last : (c : After-last_state-l) →
     let a = c.args in
+    told (behind_name a.name) a.at (said (drop a.at a.f.now)) ≡ ended (from_end a.name c.in-Got.id) c.in-Got.end (drop c.in-Got.end a.f.now) →
     told (behind_name a.name) a.at (said (drop a.at a.f.now)) ≡ last_by (event a.name c.in-Got.id) c.last_state-l.result
-last c =
+last c read =
     let a = c.args in
     let start = event a.name c.in-Got.id in
-    left c.before.before.before.before.before
+    read
     ∙ ended_space (from_end a.name c.in-Got.id) a.f.now c.in-Got.end (sym c.has.ensures ∙ c.if-not-has.false)
     ∙ told_same (from_end a.name c.in-Got.id) (last_word start) _ (λ w ws. refl) _ ∙ last_told start _ _ ∙ ap (last_by start) (sym c.last_state-l.ensures)
 
@@ -61,7 +62,7 @@ returns-in-Wrong c =
     ∙ ap (id_by a.f.now (from_end a.name)) (sym c.request_id-i.ensures ∙ c.in-Wrong.is))
 
 pub returns-in-Wrong-l : goal.returns-in-Wrong-l
-returns-in-Wrong-l c = sym (last (goal.at.returns-in-Wrong-l c).After-last_state-l ∙ ap (last_by _) c.in-Wrong-l.is)
+returns-in-Wrong-l c = sym (last (goal.at.returns-in-Wrong-l c).After-last_state-l (left (goal.at.returns-in-Wrong-l c).In-Got) ∙ ap (last_by _) c.in-Wrong-l.is)
 
 pub returns-in-Got-l : goal.returns-in-Got-l
-returns-in-Got-l c = sym (last (goal.at.returns-in-Got-l c).After-last_state-l ∙ ap (last_by _) c.in-Got-l.is)
+returns-in-Got-l c = sym (last (goal.at.returns-in-Got-l c).After-last_state-l (left (goal.at.returns-in-Got-l c).In-Got) ∙ ap (last_by _) c.in-Got-l.is)
