@@ -29,9 +29,6 @@ returns-then-bytes-size-ne103 c =
     rw (size, within n left) (get_or-take n.size n.bytes (n.size - 1) 0 (omega (arith, some))) in
     sym (other_end (name_of n) (omega (arith, size, some)) (λ e. c.if-bytes-size-ne103.true (sym last ∙ e)))
 
--- LOST slice-bounds-equal-end
--- part_equal_end c = let at = c.before.before.before.before.before in omega (arith, bytes_44 at.args.n _ at.well-formed.0)
-
 pub returns-then-equal : goal.returns-then-equal
 returns-then-equal c =
     let n = c.args.n in

@@ -7,19 +7,9 @@ use Rattle.startwords.specs.Runs.{last_at}
 use Rattle.startwords.proofs.Positions.{begins_in}
 use Rattle.startwords.proofs.last_state.Goals as goal
 
--- LOST overflow-add-t10
--- add_t10 c =
---     let a = c.before.before.before.before.args in
---     omega (arith, begins_in (bytes "PENDING\r\n") a.f.now a.at (sym c.before.text.ensures ∙ c.if1.true) (lit< tt))
-
 pub returns-then-text : goal.returns-then-text
 unfolding last_at
 returns-then-text c = rw (sym c.text.ensures ∙ c.if-text.true, last_at)
-
--- LOST overflow-add-t15
--- add_t15 c =
---     let a = c.before.before.before.before.before.before.before.args in
---     omega (arith, begins_in (bytes "IN-PROGRESS\r\n") a.f.now a.at (sym c.before.text2.ensures ∙ c.if2.true) (lit< tt))
 
 pub returns-then-text-2 : goal.returns-then-text-2
 unfolding last_at
