@@ -1,6 +1,6 @@
 -- A mask with a bit for each listed id marks the entries whose ids are listed. Assumes nothing.
 use Prim.Native.Nat.{ℕ, suc, ◌+◌, ◌*◌, ◌%◌, ◌^◌, ◌<◌}
-use mathlib.Core.Path.{◌≡◌, refl, sym, ap, ap₂}
+use mathlib.Core.Path.{subst, ◌≡◌, refl, sym, ap, ap₂}
 use mathlib.Core.Bool.{Bool, true, false, not, beq}
 use mathlib.Core.List.{List, [], ◌∷◌}
 use native.Mathlib.Nat.{add_assoc, add-mul, mul_assoc, one-mul, pow-succ', zero-add}
@@ -57,7 +57,8 @@ marks want listed j p (e ∷ queue) h =
     let rest = bits_from (suc j) listed (ids queue) in
     ap₂ (λ (x : Bool) (q : List Entry). put x e q)
     (ap (λ (x : Bool). beq x want) (bit_here j p b listed (ids queue) h))
-    (rw (← add_assoc p (bit_where b j) rest) (marks want listed (suc j) (p + bit_where b j) queue (low_grows j p b h)))
+    (subst (λ (n : ℕ). marked want n (suc j) queue ≡ keep (λ (e : Entry). beq (elem e.id listed) want) queue)
+    (add_assoc p (bit_where b j) rest) (marks want listed (suc j) (p + bit_where b j) queue (low_grows j p b h)))
 
 wanted : (b : Bool) → beq b true ≡ b
 wanted true = refl

@@ -24,9 +24,8 @@ barred c fs told =
     sym (c.meets.ensures ∙ ap (meets a.h.mask) c.forbidden_bits.ensures
     ∙ forbidden_met a.f.now a.h fs told a.kind)
 
-stands : (c : Else-meets) (fs : Fields (List ℕ)) → let a = c.args in
-    Tells true a.f.now a.h fs → all_stand a.kind fs ≡ true
-stands c fs told = not-false _ (barred c.before fs told ∙ c.if-meets.false)
+stands : (c : Else-meets) (fs : Fields (List ℕ)) → not (all_stand c.args.kind fs) ≡ c.meets.result → all_stand c.args.kind fs ≡ true
+stands c fs met = not-false _ (met ∙ c.if-meets.false)
 
 is_method : (c : After-is_set) (b : Bool) → let m = c.args.m in
     is_params m ≡ true → c.is_set.result ≡ b → m ≡ elim b [ true ↦ Method.SetParams | false ↦ Method.GetParams ]
@@ -51,7 +50,7 @@ returns-then-is_set c = λ e.
     (sym (is_method (goal.at.returns-then-is_set c).After-is_set true e c.if-is_set.true))
     (λ v of now major minor fs told.
     c.set_params.ensures v of now major minor fs
-    (told, stands (goal.at.returns-then-is_set c).Else-meets fs told))
+    (told, stands (goal.at.returns-then-is_set c).Else-meets fs (barred (goal.at.returns-then-is_set c).After-meets fs told)))
 
 pub returns : goal.returns
 returns c = λ e.
@@ -61,4 +60,4 @@ returns c = λ e.
     (sym (is_method (goal.at.returns c).After-is_set false e c.if-is_set.false))
     (λ v of now major minor fs told.
     c.get_params.ensures a.set a.f.now v of now major minor fs
-    (told, stands (goal.at.returns c).Else-meets fs told))
+    (told, stands (goal.at.returns c).Else-meets fs (barred (goal.at.returns c).After-meets fs told)))
