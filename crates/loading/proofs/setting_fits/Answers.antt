@@ -11,10 +11,10 @@ pub returns-then-ws-at : goal.returns-then-ws-at
 returns-then-ws-at c =
     let a = c.args in
     let n = get_or a.ws.now a.at 0 in
-    rw (c.if-not-fits.false, eq-eqb n a.own_val c.if-ws-at.true, is_own)
+    rw (c.if-not-fits.false, eq-eqb n a.own c.if-ws-at.true, is_own)
 
 pub returns : goal.returns
 returns c =
     let a = c.args in
     let n = get_or a.ws.now a.at 0 in
-    rw (c.if-not-fits.false, ne_eqb n a.own_val c.if-ws-at.false, is_own)
+    rw (c.if-not-fits.false, ne_eqb n a.own c.if-ws-at.false, is_own)
