@@ -14,13 +14,13 @@ class BadEdit(Exception):
 
 
 def crates():
-    """each crate with those that it knows, in the order of crates.txt"""
+    """each crate with those that it knows, in the order of crates.txt; `staticlib` may stand behind its name"""
     found = {}
     with open(os.path.join(TOP, "crates.txt"), encoding="utf-8") as lines:
         for line in lines:
             name, colon, known = line.partition("#")[0].partition(":")
             if colon:
-                found[name.strip()] = known.split()
+                found[name.split()[0]] = known.split()
     return found
 
 
