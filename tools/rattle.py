@@ -72,8 +72,8 @@ def words(verb, name, known):
     return said + ["--links", name + "="] + ["--crate-type", "staticlib"] * (name in edits.statics())
 
 
-def prove(crate, tell=lambda words: None):
-    """`rt check` of a crate: those below it are proved first and built, where they have changed"""
+def prove(crate, verb="check", tell=lambda words: None):
+    """`rt check` of a crate, or `rt lib`: those below it are proved first and built, where they have changed"""
     now = []
 
     def hear(line):
@@ -84,4 +84,4 @@ def prove(crate, tell=lambda words: None):
         elif now and line.startswith(PROVED):
             tell("%s proved (%d s)" % (now[0], time.monotonic() - now[1]))
 
-    run(["rt", "check"], edits.folder(crate), hear)
+    run(["rt", verb], edits.folder(crate), hear)
