@@ -15,7 +15,7 @@
 # make install    the header, the library and its pkg-config file below PREFIX=/usr/local, in DESTDIR where given
 # make uninstall  what `make install` puts there is removed: the same PREFIX and DESTDIR
 # make fmt        the sources of the crates and of the second program in their layout
-# make clean      removes target/: all is proved and built again
+# make clean      removes target/ and what the proofs left in crates/*/out: all is proved and built again
 # library, host, soak, bench and install take TARGET=aarch64-linux-gnu, arm-linux-gnueabihf or thumbv7em-none-eabihf
 VERSION = 0.1.0
 PREFIX = /usr/local
@@ -61,7 +61,7 @@ HOST = $(AT)
 RUN = $(AT)/run
 BUILT = play tell
 CC = $(LINUX)-gcc
-AR = $(shell dirname "$$(dirname "$$(rt doc)")")/on/$(shell uname -m)/toolchain/bin/llvm-ar
+AR = $(shell dirname "$$(rt doc)")/toolchain/bin/llvm-ar
 CFLAGS += -static
 # no system runs on a Cortex-M4, but its code is also that of an ARMv7-A: only the note of the profile is taken off
 ifneq ($(LINUX),$(TARGET))
@@ -114,7 +114,7 @@ tools-fuzz:
 
 # tools/group: where make is ended, what it started ends too
 library: tools
-	@tools/group tools/build-library $(CRATES)
+	@tools/group tools/build-library $(PROVED) $(CRATES)
 ifdef TARGET
 	@tools/group tools/build-target $(TARGET) $(CRATES)
 endif
@@ -202,8 +202,8 @@ test: tools-test
 	@tools/group bash .ci/run
 
 fmt: tools tools-second
-	@rt fmt
+	@for crate in crates/*/; do (cd "$$crate" && rt fmt) || exit 1; done
 	@cargo fmt --manifest-path second/Cargo.toml
 
 clean:
-	rm -rf target
+	rm -rf target crates/*/out

@@ -1,5 +1,5 @@
-"""The crates of crates.txt, and their must-fail edits, read and applied as `rt must-fail` does: a `file:` line holds
-for the `old:` and `new:` pairs after it, and the old text stands exactly once in the file as it is by then."""
+"""The crates of crates.txt, and their must-fail edits, read and applied as `rt ci` does: a `file:` line holds for the
+`old:` and `new:` pairs after it, and the old text stands exactly once in the file as it is by then."""
 import os
 import re
 import shutil
@@ -13,15 +13,23 @@ class BadEdit(Exception):
     """why an edit cannot be applied"""
 
 
+def lines():
+    """the names before the colon, and those behind it, of each line of crates.txt"""
+    with open(os.path.join(TOP, "crates.txt"), encoding="utf-8") as text:
+        for line in text:
+            own, colon, known = line.partition("#")[0].partition(":")
+            if colon:
+                yield own.split(), known.split()
+
+
 def crates():
     """each crate with those that it knows, in the order of crates.txt"""
-    found = {}
-    with open(os.path.join(TOP, "crates.txt"), encoding="utf-8") as lines:
-        for line in lines:
-            name, colon, known = line.partition("#")[0].partition(":")
-            if colon:
-                found[name.strip()] = known.split()
-    return found
+    return {own[0]: known for own, known in lines()}
+
+
+def statics():
+    """the crates that are static libraries"""
+    return {own[0] for own, _ in lines() if "staticlib" in own}
 
 
 def folder(crate):
@@ -105,5 +113,7 @@ def apply_edit(crate, edit, where):
     pairs = list(replacements(path))
     if not pairs:
         raise BadEdit("it has no 'old:' and 'new:' pair")
+    if all(old == new for _, old, new in pairs):
+        raise BadEdit("it changes nothing")
     for pair in pairs:
         replace(where, *pair)

@@ -1,6 +1,6 @@
 """The code of a crate as tools/mutants needs it: tokens and items.
 
-A contract is one token that nothing looks into. A type is its text, with the crate before the name of a declared one:
+A clause, `ghost` item or attribute is one token that nothing looks into. A type is its text, with the crate before the name of a declared one:
 `&[u8]`, `synth::State`."""
 import os
 import re
@@ -15,7 +15,7 @@ Constant = namedtuple("Constant", "name owner public type first behind")
 TOKEN = re.compile(r"""(?P<space>\s+|//[^\n]*)|(?P<bytes>b"(?:[^"\\]|\\.)*")|(?P<byte>b'(?:[^'\\]|\\.)[^']*')"""
                    r"""|(?P<text>"[^"]*")|(?P<number>[0-9]\w*)|(?P<name>[A-Za-z_]\w*)|(?P<label>'[a-z_]\w*)"""
                    r"""|(?P<mark><<=|>>=|\.\.=|::|->|=>|==|!=|<=|>=|&&|\|\||<<|>>|[-+*/%&|^]=|\.\.|.)""", re.S)
-CLAUSE = re.compile(r"ghost\s+use\b[^;]*;|(?:requires|ensures|ghost)\s*\{")
+CLAUSE = re.compile(r"ghost\s+use\b[^;]*;|(?:requires|ensures)\b\s*\*?\s*\w*\s*\{|ghost\b[^{};()]*\{|#!?\[[^\]\n]*\]")
 BRACES = re.compile(r'"(?:[^"\\]|\\.)*"|[{}]')
 BRACKETS = {"(": ")", "[": "]", "{": "}"}
 

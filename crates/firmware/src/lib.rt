@@ -6,8 +6,7 @@ ghost use Rattle.message.specs.StartLines.{start_line};
 ghost use Rattle.firmware.specs.Face.{frame_face, read_face, called};
 ghost use Rattle.firmware.specs.Steps.{frame_as};
 
-#[unsafe(no_mangle)]
-pub extern "C" fn klarvesimo_frame(s: &[u8], out: &mut [u64]) -> u32
+pub fn klarvesimo_frame(s: &[u8], out: &mut [u64]) -> u32
     ensures { record { number = result; out = out.new }
         ≡ frame_face s.now out.old }
 {
@@ -23,8 +22,7 @@ pub extern "C" fn klarvesimo_frame(s: &[u8], out: &mut [u64]) -> u32
     }
 }
 
-#[unsafe(no_mangle)]
-pub extern "C" fn klarvesimo_read(s: &[u8], out: &mut [u64], consumed: &mut [u64; 1]) -> u32
+pub fn klarvesimo_read(s: &[u8], out: &mut [u64], consumed: &mut [u64; 1]) -> u32
     ensures { record { number = result; consumed = consumed.new; out = out.new }
         ≡ called consumed.old (read_face s.now out.old) }
 {

@@ -6,8 +6,7 @@ ghost use Rattle.std.specs.Prelude.{◌≡◌, ◌++◌, ◌≤◌, length, take
 ghost use Rattle.synth.specs.Calls.{input, report as report_of};
 ghost use Rattle.klarvesimo.specs.Face.{open_face, call_face, counted, reported, back_face, held_face, listed};
 
-#[unsafe(no_mangle)]
-pub extern "C" fn klarvesimo_open(channel: &mut [u64; 89], name: &[u8]) -> u32
+pub fn klarvesimo_open(channel: &mut [u64; 89], name: &[u8]) -> u32
     ensures { record { number = result; channel = channel.new } ≡ open_face name.now }
 {
     let o = channel::open_channel(name);
@@ -17,8 +16,7 @@ pub extern "C" fn klarvesimo_open(channel: &mut [u64; 89], name: &[u8]) -> u32
 }
 
 // A client message: `counts` gets what was consumed and what was written.
-#[unsafe(no_mangle)]
-pub extern "C" fn klarvesimo_handle(
+pub fn klarvesimo_handle(
     channel: &mut [u64; 89],
     s: &[u8],
     out: &mut [u8],
@@ -46,8 +44,7 @@ pub extern "C" fn klarvesimo_handle(
 }
 
 // An engine report: its cause, and the score of what was recognized.
-#[unsafe(no_mangle)]
-pub extern "C" fn klarvesimo_report(
+pub fn klarvesimo_report(
     channel: &mut [u64; 89],
     cause: u32,
     score: f32,
@@ -74,8 +71,7 @@ pub extern "C" fn klarvesimo_report(
 }
 
 // A going back to an edition of the settings.
-#[unsafe(no_mangle)]
-pub extern "C" fn klarvesimo_back(channel: &mut [u64; 89], number: u32) -> u32
+pub fn klarvesimo_back(channel: &mut [u64; 89], number: u32) -> u32
     ensures { record { number = result; channel = channel.new } ≡ back_face channel.old number }
 {
     let l = loading::load(channel);
@@ -108,8 +104,7 @@ fn put_ids(out: &mut [u64], ids: [u32; queue::MOST], n: usize)
 }
 
 // The ids that the channel holds.
-#[unsafe(no_mangle)]
-pub extern "C" fn klarvesimo_held(channel: &[u64; 89], ids: &mut [u64], count: &mut [u64; 1]) -> u32
+pub fn klarvesimo_held(channel: &[u64; 89], ids: &mut [u64], count: &mut [u64; 1]) -> u32
     ensures { record { number = result; count = count.new; ids = ids.new }
         ≡ listed count.old (held_face channel.now ids.old) }
 {

@@ -102,8 +102,7 @@ pub fn whose_request(s: &[u8]) -> Whose
 
 // The C face of it; include/klarvesimo.h is its manual. It stands here, and not in `firmware`: a library of its own has
 // its own copy of the start line's reader, put into its one caller, as that of `firmware` has.
-#[unsafe(no_mangle)]
-pub extern "C" fn klarvesimo_whose(s: &[u8], id: &mut [u64; 1]) -> u32
+pub fn klarvesimo_whose(s: &[u8], id: &mut [u64; 1]) -> u32
     ensures { record { number = result; id = id.new } ≡ whose_face s.now id.old }
 {
     let w = whose_request(s);

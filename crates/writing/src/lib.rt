@@ -22,8 +22,7 @@ fn tell(w: output::Written, written: &mut [u64; 1]) -> u32
 }
 
 // The response to a request in the state with that number; 9 where there is no such state.
-#[unsafe(no_mangle)]
-pub extern "C" fn klarvesimo_write_response(
+pub fn klarvesimo_write_response(
     name: &[u8],
     id: u32,
     status: u32,
@@ -61,8 +60,7 @@ pub extern "C" fn klarvesimo_write_response(
 }
 
 // The event that ends a SPEAK; 9 where there is no such cause.
-#[unsafe(no_mangle)]
-pub extern "C" fn klarvesimo_write_event(
+pub fn klarvesimo_write_event(
     name: &[u8],
     id: u32,
     cause: u32,
