@@ -11,14 +11,14 @@ use Rattle.channelnumbers.proofs.Saving.{zeros}
 use Rattle.channelnumbers.proofs.tidy_editions.Given as goal
 
 abbrev pub invariant-loop-i : goal.invariant-loop-i
-invariant-loop-i l =     (l.i ≤ l.count) × (l.count ≤ 4)
+invariant-loop-i l = (l.i ≤ l.count) × (l.count ≤ 4)
     × ((es : List Edition) → editions_from l.kind 65 l.count l.initial.ws ≡ some es → Stores l.initial.ws 65 (editions_numbers l.kind es) (l.i * 6) l.ws)
 
 abbrev pub decreases-loop-i : goal.decreases-loop-i
 decreases-loop-i l = l.count - l.i
 
 abbrev pub invariant-loop-j : goal.invariant-loop-j
-invariant-loop-j l =     (65 + l.count * 6 ≤ l.j) × (l.j ≤ 89) × (l.count ≤ 4)
+invariant-loop-j l = (65 + l.count * 6 ≤ l.j) × (l.j ≤ 89) × (l.count ≤ 4)
     × Stores l.initial.ws (65 + l.count * 6) (zeros 24) (l.j - (65 + l.count * 6)) l.ws
 
 abbrev pub decreases-loop-j : goal.decreases-loop-j

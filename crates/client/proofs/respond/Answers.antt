@@ -37,6 +37,6 @@ returns c =
     let a = c.args in
     let named = sym (within a.name c.requires) in
     let r = c.respond.ensures in record {
-  value = λ h. r.value ∙ ap (λ n. counted (written (response_of n a.o.answer (take a.o.listed.count a.o.listed.ids))) a.out.now) named;
-  out_after = λ h. r.out_after ∙ ap (λ n. delivered (written (response_of n a.o.answer (take a.o.listed.count a.o.listed.ids))) a.out.now) named;
-}
+      value = λ h. r.value ∙ ap (λ n. counted (written (response_of n a.o.answer (take a.o.listed.count a.o.listed.ids))) a.out.now) named;
+      out_after = λ h. r.out_after ∙ ap (λ n. delivered (written (response_of n a.o.answer (take a.o.listed.count a.o.listed.ids))) a.out.now) named;
+    }

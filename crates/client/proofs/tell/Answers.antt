@@ -46,6 +46,6 @@ pub returns : goal.returns
 returns c =
     let a = c.args in
     let r = c.tell.ensures in record {
-  value = λ e. r.value ∙ ap (λ l. counted l a.out.now) (told_is (goal.at.returns c).After-tell e);
-  out_after = λ e. r.out_after ∙ ap (λ l. delivered l a.out.now) (told_is (goal.at.returns c).After-tell e);
-}
+      value = λ e. r.value ∙ ap (λ l. counted l a.out.now) (told_is (goal.at.returns c).After-tell e);
+      out_after = λ e. r.out_after ∙ ap (λ l. delivered l a.out.now) (told_is (goal.at.returns c).After-tell e);
+    }

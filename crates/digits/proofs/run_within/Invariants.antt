@@ -7,7 +7,7 @@ use Rattle.digits.specs.Steps.{run_from}
 use Rattle.digits.proofs.run_within.Given as goal
 
 abbrev pub invariant-loop-next : goal.invariant-loop-next
-invariant-loop-next l =     (l.at ≤ l.next) × (l.next ≤ l.end) × (l.value < 10 ^ (l.next - l.at))
+invariant-loop-next l = (l.at ≤ l.next) × (l.next ≤ l.end) × (l.value < 10 ^ (l.next - l.at))
     × (run_from (l.end - l.at) 0 l.at (drop l.at l.s) ≡ run_from (l.end - l.next) l.value l.next (drop l.next l.s))
 
 abbrev pub decreases-loop-next : goal.decreases-loop-next

@@ -10,7 +10,7 @@ use Rattle.fieldlines.proofs.Runs.{text}
 use Rattle.fieldlines.proofs.gaps_end.Given as goal
 
 abbrev pub invariant-loop-i : goal.invariant-loop-i
-invariant-loop-i l =     (l.at ≤ l.i) × (l.i ≤ l.end) × (l.end ≤ length l.f)
+invariant-loop-i l = (l.at ≤ l.i) × (l.i ≤ l.end) × (l.end ≤ length l.f)
     × (l.class ≡ classes → l.at + run is_gap (text l.f l.at l.end) ≡ l.i + run is_gap (text l.f l.i l.end))
 
 abbrev pub decreases-loop-i : goal.decreases-loop-i

@@ -10,7 +10,7 @@ use Rattle.fieldlines.proofs.Runs.{text}
 use Rattle.fieldlines.proofs.solid_end.Given as goal
 
 abbrev pub invariant-loop-e : goal.invariant-loop-e
-invariant-loop-e l =     (l.at ≤ l.e) × (l.e ≤ length l.f) × (l.class ≡ classes → trim_end (text l.f l.at l.end) ≡ trim_end (text l.f l.at l.e))
+invariant-loop-e l = (l.at ≤ l.e) × (l.e ≤ length l.f) × (l.class ≡ classes → trim_end (text l.f l.at l.end) ≡ trim_end (text l.f l.at l.e))
 
 abbrev pub decreases-loop-e : goal.decreases-loop-e
 decreases-loop-e l = l.e - l.at

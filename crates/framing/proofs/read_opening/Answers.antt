@@ -16,12 +16,14 @@ use Rattle.framing.proofs.read_opening.Goals.{After-byte_after-end}
 module _ (c : After-byte_after-end) where
   abbrev s : List ℕ
   s = c.args.s.now
+
   abbrev o : Opening
   o = record {
     major = value_of c.number_after-major.result;
     minor = value_of c.number_after-minor.result;
     stated = value_of c.number_after-stated.result;
   }
+
   by_steps : (p : Place) → c.byte_after-end.result ≡ p → front_of (opening s) ≡ front_at p o
   unfolding opening
   by_steps p e =

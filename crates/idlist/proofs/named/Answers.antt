@@ -18,10 +18,12 @@ returns-then-not-in_range c = wrong_id c.loop-bits.invariant.0 _ c.digits_at-d.e
 module _ (c : Else-not-in_range) where
   abbrev d : Digits
   d = c.digits_at-d.result
+
   small : d.value ≤ 4294967295
   small =
       let at = c.before.before in
       in_range_lem at.loop-bits.invariant.0 _ at.digits_at-d.ensures c.in_range.ensures c.if-not-in_range.false
+
   fits : c.loop-bits.i + d.count
       ≤ length c.args.v.now
   fits =
@@ -43,7 +45,7 @@ returns-then-v-i-ne44 c = no_comma c.loop-bits.invariant.0 _ c.digits_at-d.ensur
 
 pub loop-bits-preserved : goal.loop-bits-preserved
 loop-bits-preserved c = (
-      next_id c.loop-bits.invariant.0 _ c.digits_at-d.ensures c.in_range.ensures c.if-not-in_range.false
-          c.places-bits.ensures (omega arith) c.if-v-i-ne44.false,
-      omega arith,
-    )
+  next_id c.loop-bits.invariant.0 _ c.digits_at-d.ensures c.in_range.ensures c.if-not-in_range.false
+      c.places-bits.ensures (omega arith) c.if-v-i-ne44.false,
+  omega arith,
+)

@@ -23,9 +23,9 @@ put_ids-requires c =
     let is = c.load-l.ensures in
     let sane = is.fit ∙ sym (c.is_shaped.ensures is.editions) ∙ c.if-not-is_shaped.false in
     record {
-  n_bound = (c.list_held-held.ensures.lists (queue_short _ sane)).few;
-  n_in_bounds = c.if-ids-n.false;
-}
+      n_bound = (c.list_held-held.ensures.lists (queue_short _ sane)).few;
+      n_in_bounds = c.if-ids-n.false;
+    }
 
 pub returns : goal.returns
 returns c =

@@ -33,8 +33,7 @@ loop-i-preserved c =
 
 pub loop-j-init : goal.loop-j-init
 loop-j-init c =
-    let a = c.args in
-    (
+    let a = c.args in (
       omega arith,
       rw c.threshold_count-levels.ensures (thresholds_8 a.kind c.count_where-count.result (counted (goal.at.loop-j-init c).After-count_where-count)),
       refl,

@@ -19,15 +19,15 @@ pub put_recognition_complete-p-requires : goal.put_recognition_complete-p-requir
 put_recognition_complete-p-requires c =
     let a = c.args in
     record {
-  size_value = omega (
-      arith,
-      cancelled_room Kind.Recognizer a.name.now a.ids.now c.loop-j.j c.loop-j-test.true,
-    );
-  size_in_bounds = omega (
-      arith,
-      cancelled_room Kind.Recognizer a.name.now a.ids.now c.loop-j.j c.loop-j-test.true,
-    );
-}
+      size_value = omega (
+        arith,
+        cancelled_room Kind.Recognizer a.name.now a.ids.now c.loop-j.j c.loop-j-test.true,
+      );
+      size_in_bounds = omega (
+        arith,
+        cancelled_room Kind.Recognizer a.name.now a.ids.now c.loop-j.j c.loop-j-test.true,
+      );
+    }
 
 pub loop-j-preserved : goal.loop-j-preserved
 loop-j-preserved c =

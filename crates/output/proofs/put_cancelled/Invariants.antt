@@ -9,7 +9,7 @@ use Rattle.sizes.proofs.Events.{cancelled}
 use Rattle.output.proofs.put_cancelled.Given as goal
 
 abbrev pub invariant-loop-j : goal.invariant-loop-j
-invariant-loop-j l =     (l.j ≤ length l.ids) × Wrote l.initial.out l.at (cancelled Kind.Recognizer l.name (take l.j l.ids)) l.out l.p × (length l.out ≡ length l.initial.out)
+invariant-loop-j l = (l.j ≤ length l.ids) × Wrote l.initial.out l.at (cancelled Kind.Recognizer l.name (take l.j l.ids)) l.out l.p × (length l.out ≡ length l.initial.out)
 
 abbrev pub decreases-loop-j : goal.decreases-loop-j
 decreases-loop-j l = length l.ids - l.j

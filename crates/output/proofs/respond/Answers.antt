@@ -8,7 +8,7 @@ use Rattle.output.proofs.respond.Goals as goal
 pub returns-then-out-size : goal.returns-then-out-size
 returns-then-out-size c =
     let a = c.args in
-    let both = refused (written (response a.name.now a.a.id a.a.status.code a.a.state a.ids.now)) a.out.now (omega arith) in record { value = both.0; out_after = both.1; }
+    let both = refused (written (response a.name.now a.a.id a.a.status.code a.a.state a.ids.now)) a.out.now (omega arith) in record { value = both.0; out_after = both.1 }
 
 pub returns : goal.returns
-returns c = let both = fits c.put_response-end.ensures in record { value = both.0; out_after = both.1; }
+returns c = let both = fits c.put_response-end.ensures in record { value = both.0; out_after = both.1 }

@@ -75,10 +75,10 @@ returns c =
     let done = c.loop-i-test.false in
     let rest = l.invariant.9 ∙ all_kept_lem mask (entries_in q) q.count l.i l.left done (entries_of l.numbers l.thresholds) in
     let gone = sym (l.invariant.10 ∙ all_listed mask (entries_in q) q.count l.i l.gone done l.ids) in record {
-  ends = λ _. rw (within q few)
+      ends = λ _. rw (within q few)
           (record {
             lists = record { shown = gone; counted = sym (length-take-le l.gone l.ids (omega arith)) ∙ ap length gone; few = omega arith };
             left = within (record { numbers = l.numbers; thresholds = l.thresholds; count = l.left }) (omega arith) ∙ sym rest;
           });
-  value = λ many. absurd (omega (arith, many, few, count_is q _ c.well_formed.0));
-}
+      value = λ many. absurd (omega (arith, many, few, count_is q _ c.well_formed.0));
+    }

@@ -11,7 +11,7 @@ use Rattle.queue.specs.Queue.{entries_of, marked}
 use Rattle.queue.proofs.end.Given as goal
 
 abbrev pub invariant-loop-i : goal.invariant-loop-i
-invariant-loop-i l =     let queue : List Entry = entries_of l.old l.levels in
+invariant-loop-i l = let queue : List Entry = entries_of l.old l.levels in
     (l.i ≤ l.count) × (l.count ≤ 16) × (l.left ≤ l.i) × (l.gone ≤ l.i) × (length l.numbers ≡ 16) × (length l.thresholds ≡ 16) × (length l.ids ≡ 16) × (length l.old ≡ 16) × (length l.levels ≡ 16)
     × (marked false l.mask 0 (take l.count queue) ≡ take l.left (entries_of l.numbers l.thresholds) ++ marked false l.mask l.i (drop l.i (take l.count queue)))
     × (ids_of (marked true l.mask 0 (take l.count queue)) ≡ take l.gone l.ids ++ ids_of (marked true l.mask l.i (drop l.i (take l.count queue))))

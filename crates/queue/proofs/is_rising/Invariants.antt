@@ -8,7 +8,7 @@ use Rattle.queue.proofs.Queues.{ids_in}
 use Rattle.queue.proofs.is_rising.Given as goal
 
 abbrev pub invariant-loop-i : goal.invariant-loop-i
-invariant-loop-i l =     (l.i ≤ l.count) × (l.count ≤ 16) × (length l.numbers ≡ 16)
+invariant-loop-i l = (l.i ≤ l.count) × (l.count ≤ 16) × (length l.numbers ≡ 16)
     × (ascends 0 (ids_in (take l.count l.numbers)) l.end ≡ ascends l.from (ids_in (drop l.i (take l.count l.numbers))) l.end)
 
 abbrev pub decreases-loop-i : goal.decreases-loop-i

@@ -28,6 +28,6 @@ returns c =
     λ level. let same = level_same e.threshold level in
     λ i. record { id = number.ensures.0 i; kill = number.ensures.1 i; threshold = same i } in
     let stored = entry_set q.numbers q.thresholds q.count number.result e.threshold (as_many q _ c.well_formed.0) in record {
-  result_value = λ room level. within _ more ∙ ap (take (q.count + 1)) (stored ∙ ap (set (entries_in q) q.count) (told level)) ∙ rw (within q (omega arith), add-one, take-suc-set);
-  value = λ full. absurd (omega (arith, full, left, count_is q _ c.well_formed.0));
-}
+      result_value = λ room level. within _ more ∙ ap (take (q.count + 1)) (stored ∙ ap (set (entries_in q) q.count) (told level)) ∙ rw (within q (omega arith), add-one, take-suc-set);
+      value = λ full. absurd (omega (arith, full, left, count_is q _ c.well_formed.0));
+    }

@@ -35,10 +35,10 @@ returns c =
     let q = c.args.q in
     let left = c.if-count-gt-MOST.false in
     let e : c.loop-i.i ≡ q.count = omega arith in record {
-  lists = λ few. record {
+      lists = λ few. record {
         shown = (rw e at c.loop-i.invariant.4) ∙ sym (ap ids_of (within q left) ∙ entry_ids q.count q.numbers q.thresholds (as_many q _ c.well_formed.0));
         counted = sym (length-map (list_of q) _ ∙ count_is q _ c.well_formed.0);
         few = left;
       };
-  value = λ many. absurd (omega (arith, many, left, count_is q _ c.well_formed.0));
-}
+      value = λ many. absurd (omega (arith, many, left, count_is q _ c.well_formed.0));
+    }

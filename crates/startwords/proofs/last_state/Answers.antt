@@ -23,17 +23,17 @@ overflow_add-result-then-text-3 c =
 pub returns-then-text-3 : goal.returns-then-text-3
 unfolding last_at
 returns-then-text-3 c = rw (
-      sym c.text.ensures ∙ c.if-text.false,
-      sym c.text-2.ensures ∙ c.if-text-2.false,
-      sym c.text-3.ensures ∙ c.if-text-3.true,
-      last_at,
-    )
+  sym c.text.ensures ∙ c.if-text.false,
+  sym c.text-2.ensures ∙ c.if-text-2.false,
+  sym c.text-3.ensures ∙ c.if-text-3.true,
+  last_at,
+)
 
 pub returns : goal.returns
 unfolding last_at
 returns c = rw (
-      sym c.text.ensures ∙ c.if-text.false,
-      sym c.text-2.ensures ∙ c.if-text-2.false,
-      sym c.text-3.ensures ∙ c.if-text-3.false,
-      last_at,
-    )
+  sym c.text.ensures ∙ c.if-text.false,
+  sym c.text-2.ensures ∙ c.if-text-2.false,
+  sym c.text-3.ensures ∙ c.if-text-3.false,
+  last_at,
+)

@@ -17,6 +17,7 @@ module _ (out : List ℕ) (at k m : ℕ) (last : k + 1 ≡ at + width m) (room :
   several h =
       let e : k ≡ at + width (m / 10) = omega (arith, width_big m h) in
       rw (e, digits_big m h) (put_before out at (digits (m / 10)) (48 + m % 10) (omega arith))
+
   -- the only digit
   only : m < 10 → set out k (48 + m) ≡ put out at (digits m)
   only h =

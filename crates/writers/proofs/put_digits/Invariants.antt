@@ -8,7 +8,7 @@ use Rattle.writers.specs.Buffer.{put}
 use Rattle.writers.proofs.put_digits.Given as goal
 
 abbrev pub invariant-loop-m : goal.invariant-loop-m
-invariant-loop-m l =     (put l.out l.at (digits l.m) ≡ put l.initial.out l.at (digits l.n)) × (l.k + 1 ≡ l.at + width l.m) × (l.at + width l.m ≤ length l.out) × (length l.out ≡ length l.initial.out)
+invariant-loop-m l = (put l.out l.at (digits l.m) ≡ put l.initial.out l.at (digits l.n)) × (l.k + 1 ≡ l.at + width l.m) × (l.at + width l.m ≤ length l.out) × (length l.out ≡ length l.initial.out)
 
 abbrev pub decreases-loop-m : goal.decreases-loop-m
 decreases-loop-m l = l.m
