@@ -18,7 +18,6 @@ use Rattle.digits.specs.Steps.{digits_at}
 use Rattle.digits.specs.declared.Digits.{Digits}
 use Rattle.digits.proofs.Numerals.{counts, without, in_part, digits_alone, number_whole, value_whole}
 use Rattle.synth.specs.Levels.{quotient, level_of, places, at_most_one, level_in}
-use Rattle.synth.specs.declared.Level.{Level}
 use Rattle.levels.specs.Reading.{kept, level_found}
 use Rattle.levels.specs.Steps.{is_first, level_by}
 use Rattle.levels.specs.declared.Found.{Found}

@@ -2,7 +2,6 @@
 -- either kind, and the events that end none, one and several requests.
 -- Assumes nothing.
 use Prim.Native.Nat.{ℕ}
-use Prim.Native.String.{String}
 use mathlib.Core.Path.{◌≡◌, refl}
 use mathlib.Core.List.{List, [], ◌∷◌, ◌++◌}
 use Rattle.octets.specs.Octets.{bytes}

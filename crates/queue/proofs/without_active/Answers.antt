@@ -2,7 +2,6 @@
 -- measure is what is left of them. Assumes nothing.
 use Prim.Native.Nat.{ℕ, suc, ◌-◌}
 use mathlib.Core.Path.{◌≡◌, refl, sym, ap, ◌∙◌}
-use mathlib.Core.List.{[]}
 use native.Mathlib.Omega.{arith}
 use lib.ListN.{length, take}
 use Rattle.queue.proofs.Queues.{entries_in, numbers_16, levels_16, count_is, none_in, within}

@@ -2,7 +2,6 @@
 -- measure is what is left of them. Assumes nothing.
 use Prim.Native.Nat.{◌-◌, ◌≤◌}
 use mathlib.Core.Path.{◌≡◌}
-use mathlib.Core.List.{[]}
 use lib.ListN.{length}
 use Rattle.queue.specs.Queue.{entries_of}
 use Rattle.queue.proofs.Shifts.{Moved}

@@ -6,12 +6,12 @@ pub returns-in-Refused : goal.returns-in-Refused
 returns-in-Refused c =
     let m = c.finish-r in
     let a = c.args in
-    finish_told a.out.now a.used a.count a.length.now m.result _ _ m.ensures.0 m.ensures.1
+    finish_told a.out.now a.used a.count a.length.now m.result _ _ m.ensures.value m.ensures.out_after
     c.in-Refused.is
 
 pub returns-in-File : goal.returns-in-File
 returns-in-File c =
     let m = c.finish-r in
     let a = c.args in
-    finish_told a.out.now a.used a.count a.length.now m.result _ _ m.ensures.0 m.ensures.1
+    finish_told a.out.now a.used a.count a.length.now m.result _ _ m.ensures.value m.ensures.out_after
     c.in-File.is

@@ -7,7 +7,7 @@ use lib.Dec.{eqb}
 use lib.Ieee.{Float}
 use lib.ListN.{length}
 use borrow.Author.Tests.{ne_eqb}
-use Rattle.message.specs.Message.{Fields, Head, request, response, event, message, Message}
+use Rattle.message.specs.Message.{Fields, Head, request, response, message, Message}
 use Rattle.message.specs.Reading.{read_bytes, messages_in}
 use Rattle.message.specs.declared.RequestState.{RequestState}
 use Rattle.synth.specs.Request.{method_of, opens}

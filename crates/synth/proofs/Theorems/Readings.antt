@@ -4,7 +4,6 @@ use Prim.Native.Nat.{ℕ, zero, suc}
 use Prim.Native.String.{String}
 use mathlib.Core.Path.{◌≡◌, refl}
 use mathlib.Core.List.{List, [], ◌∷◌, map}
-use Rattle.octets.specs.Octets.{bytes}
 use Rattle.message.specs.Message.{Reading, refused, message}
 use Rattle.synth.specs.Channel.{View}
 use Rattle.synth.specs.Calls.{Reply}

@@ -16,7 +16,7 @@ pub returns-then-not-can_be_left : goal.returns-then-not-can_be_left
 returns-then-not-can_be_left c =
     let a = c.args in
     let not = sym c.can_be_left.ensures ∙ c.if-not-can_be_left.true in
-    let both = finish_refused a.out.now a.used a.count 13 (ends_not a.out.now a.used a.count not) in record { value = both.0; out_after = both.1; }
+    let both = finish_refused a.out.now a.used a.count 13 (ends_not a.out.now a.used a.count not) in record { value = both.0; out_after = both.1 }
 
 can : (c : Else-not-can_be_left)
     → can_be_left c.args.out.now
@@ -29,7 +29,7 @@ returns-then-not-fits c =
     let a = c.args in
     let not = sym c.fits.ensures ∙ c.if-not-fits.true in
     let both = finish_refused a.out.now a.used a.count 7
-    (ends_over a.out.now a.used a.count (can (goal.at.returns-then-not-fits c).Else-not-can_be_left) not) in record { value = both.0; out_after = both.1; }
+    (ends_over a.out.now a.used a.count (can (goal.at.returns-then-not-fits c).Else-not-can_be_left) not) in record { value = both.0; out_after = both.1 }
 
 fit : (c : Else-not-fits)
     → fits (length c.args.out.now)
@@ -40,7 +40,7 @@ fit c = sym c.fits.ensures ∙ c.if-not-fits.false
 pub put_index-p-requires : goal.put_index-p-requires
 put_index-p-requires c =
     let a = c.args in
-    let both = finish_ready a.out.now a.used a.count (can (goal.at.put_index-p-requires c).Else-not-can_be_left) (fit (goal.at.put_index-p-requires c).Else-not-fits) in record { out_value = both.0; count_in_bounds = both.1; }
+    let both = finish_ready a.out.now a.used a.count (can (goal.at.put_index-p-requires c).Else-not-can_be_left) (fit (goal.at.put_index-p-requires c).Else-not-fits) in record { out_value = both.0; count_in_bounds = both.1 }
 
 pub put_trailer-end-requires : goal.put_trailer-end-requires
 put_trailer-end-requires c =
@@ -59,4 +59,4 @@ returns c =
     let i = finish_index a.out.now a.used a.count k (fit (goal.at.returns c).Else-not-fits) in
     let n : w.result ≡ a.used + 4 * a.count + 12 =
     omega (arith, i, v.ensures, w.ensures, trailer_length a.used a.count) in
-    let both = finish_file a.out.now a.used a.count k (fit (goal.at.returns c).Else-not-fits) _ _ v.result w.result v.ensures w.ensures n in record { value = both.0; out_after = both.1; }
+    let both = finish_file a.out.now a.used a.count k (fit (goal.at.returns c).Else-not-fits) _ _ v.result w.result v.ensures w.ensures n in record { value = both.0; out_after = both.1 }

@@ -17,7 +17,7 @@ returns-then-not-can_be_left c =
     let a = c.args in
     let not = sym c.can_be_left.ensures ∙ c.if-not-can_be_left.true in
     let both = record_refused a.out.now a.used a.count a.m.now 13
-    (not_left a.out.now a.used a.count a.m.now not) in record { value = both.0; out_after = both.1; }
+    (not_left a.out.now a.used a.count a.m.now not) in record { value = both.0; out_after = both.1 }
 
 can : (c : Else-not-can_be_left)
     → can_be_left c.args.out.now
@@ -30,7 +30,7 @@ returns-then-not-is_one c =
     let a = c.args in
     let not = sym c.is_one.ensures ∙ c.if-not-is_one.true in
     let both = record_refused a.out.now a.used a.count a.m.now 14
-    (not_one a.out.now a.used a.count a.m.now (can (goal.at.returns-then-not-is_one c).Else-not-can_be_left) not) in record { value = both.0; out_after = both.1; }
+    (not_one a.out.now a.used a.count a.m.now (can (goal.at.returns-then-not-is_one c).Else-not-can_be_left) not) in record { value = both.0; out_after = both.1 }
 
 one : (c : Else-not-is_one)
     → is_one (length c.args.m.now)
@@ -52,7 +52,7 @@ returns-then-not-fits c =
     let a = c.args in
     let not = sym c.fits.ensures ∙ c.if-not-fits.true in
     let both = record_refused a.out.now a.used a.count a.m.now 7
-    (no_room a.out.now a.used a.count a.m.now (can (goal.at.returns-then-not-fits c).Else-not-can_be_left) (one (goal.at.returns-then-not-fits c).Else-not-is_one) not) in record { value = both.0; out_after = both.1; }
+    (no_room a.out.now a.used a.count a.m.now (can (goal.at.returns-then-not-fits c).Else-not-can_be_left) (one (goal.at.returns-then-not-fits c).Else-not-is_one) not) in record { value = both.0; out_after = both.1 }
 
 pub put_bytes-end-requires : goal.put_bytes-end-requires
 put_bytes-end-requires c =
@@ -71,4 +71,4 @@ returns c =
     let w = c.put_bytes-end in
     let fit = sym c.fits.ensures ∙ c.if-not-fits.false in
     let both = record_left a.out.now a.used a.count a.m.now (can (goal.at.returns c).Else-not-can_be_left) (one (goal.at.returns c).Else-not-is_one) fit _
-    w.result w.ensures in record { value = both.0; out_after = both.1; }
+    w.result w.ensures in record { value = both.0; out_after = both.1 }
