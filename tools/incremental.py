@@ -33,7 +33,7 @@ Outcome = namedtuple("Outcome", "verdict place seconds log")  # the place of the
 
 @contextlib.contextmanager
 def room(crate):
-    """a folder that is removed afterwards; outside the checkout, since `rt ci` refuses .rt and .antt files of no crate"""
+    """a folder that is removed afterwards, outside the checkout: `rt ci` refuses .rt and .antt files of no crate"""
     at = tempfile.mkdtemp(prefix="klarvesimo-%s-" % crate)
     try:
         yield at

@@ -61,7 +61,7 @@ def below(known):
 
 
 def words(verb, name, known):
-    """the command, in its folder, for a crate of that name that knows those crates, which are taken as they are built"""
+    """the command, in its folder, for a crate of that name that knows these crates, taken as they are built"""
     home, root = kit(), "src/lib.rt"
     said = [home + "/bin/rattle", verb, "--crate-name", name, root, "--extern", "std=%s/rlibs/std.rlib" % home]
     for crate in known:

@@ -1,7 +1,7 @@
 """The code of a crate as tools/mutants needs it: tokens and items.
 
-A clause, `ghost` item or attribute is one token that nothing looks into. A type is its text, with the crate before the name of a declared one:
-`&[u8]`, `synth::State`."""
+A clause, a `ghost` item or an attribute is one token that nothing looks into. A type is its text, with the crate before
+the name of a declared one: `&[u8]`, `synth::State`."""
 import os
 import re
 from collections import namedtuple
