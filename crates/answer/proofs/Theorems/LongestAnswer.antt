@@ -73,11 +73,11 @@ pub reached : length (written (response (bytes "abcdefghijklmnopqrstuvwxyzabcdef
 unfolding written response start_text field_text fields_text after_length behind_commas id_list_text self_length digits digits_within three_digits
 reached = refl
 
-pub reached-by-events :
+pub reached_by_events :
     length (written (complete Kind.Synthesizer (bytes "abcdefghijklmnopqrstuvwxyzabcdef@speechsynth") 4294967295 6))
     ∷ length (written (complete Kind.Recognizer (bytes "abcdefghijklmnopqrstuvwxyzabcdef@speechrecog") 4294967295 5))
     ∷ length (written (complete Kind.Recognizer (bytes "abcdefghijklmnopqrstuvwxyzabcdef@speechrecog") 4294967295 11))
     ∷ []
     ≡ 159 ∷ 172 ∷ 154 ∷ []
 unfolding written complete start_text field_text fields_text after_length self_length digits digits_within three_digits
-reached-by-events = refl
+reached_by_events = refl

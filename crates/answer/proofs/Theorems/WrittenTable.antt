@@ -27,7 +27,7 @@ recognized id cause = written (complete Kind.Recognizer (bytes "7f3a@speechrecog
 pub ended : List ℕ → ℕ → List ℕ
 ended ids cause = written_all (completes Kind.Recognizer (bytes "7f3a@speechrecog") ids cause)
 
-pub written-bytes :
+pub written_bytes :
     responds 7 200 InProgress []
     ∷ responds 8 201 Pending []
     ∷ responds 0 410 Complete []
@@ -97,4 +97,4 @@ pub written-bytes :
     ++ bytes "MRCP/2.0 117 RECOGNITION-COMPLETE 9 COMPLETE\r\nChannel-Identifier:7f3a@speechrecog\r\nCompletion-Cause:011 cancelled\r\n\r\n")
     ∷ []
 unfolding responds spoken recognized ended written written_all response complete start_text field_text fields_text after_length behind_commas id_list_text self_length digits digits_within three_digits
-written-bytes = refl
+written_bytes = refl

@@ -16,7 +16,7 @@ use Rattle.message.specs.declared.Span.{Span}
 use Rattle.message.proofs.Theorems.LineTable.{line_of, named}
 
 -- the value handed back is raw, and no blank or fold is at its ends
-pub folded-lines :
+pub folded_lines :
     line_of "A:b\r\n c\r\nB"  -- inside: the value is raw
     ∷ line_of "A:b\t \r\n\t c\r\n"  -- blanks on both sides of a fold
     ∷ line_of "A:b\r\n\tc\r\n d\r\n"  -- two folds
@@ -68,7 +68,7 @@ pub folded-lines :
     ∷ Line.malformed
     ∷ []
 unfolding line_of named field_line raw joined
-folded-lines = refl
+folded_lines = refl
 
 pub reads_as : String → List ℕ
 reads_as text = joined (bytes text)

@@ -27,7 +27,7 @@ answers id status state next = started (response id status state) next
 pub tells : ℕ → ℕ → RequestState → ℕ → Started
 tells length id state next = started (event (record { start = 0; len = length }) id state) next
 
-pub start-lines :
+pub start_lines :
     started_by "STOP 9\r\nX"
     ∷ started_by "9 200 PENDING\r\n"
     ∷ started_by "9 200 IN-PROGRESS\r\n"
@@ -75,7 +75,7 @@ pub start-lines :
     ∷ Started.malformed
     ∷ []
 unfolding started_by asks answers tells start_line
-start-lines = refl
+start_lines = refl
 
 unfoldable pub line_of : String → Line
 line_of text = field_line 0 (bytes text)
@@ -84,7 +84,7 @@ line_of text = field_line 0 (bytes text)
 unfoldable pub named : ℕ → ℕ → ℕ → ℕ → Line
 named length at valued next = field (record { name = record { start = 0; len = length }; value = record { start = at; len = valued } }) next
 
-pub field-lines :
+pub field_lines_lem :
     line_of "A:b\r\nB"
     ∷ line_of "A: \tb c \t\r\n"  -- blanks at both ends are dropped
     ∷ line_of "A:\r\n"
@@ -122,12 +122,12 @@ pub field-lines :
     ∷ Line.malformed
     ∷ []
 unfolding line_of named field_line raw joined
-field-lines = refl
+field_lines_lem = refl
 
 pub known : String → Known
 known name = known_of (bytes name)
 
-pub known-names :
+pub known_names_lem :
     known "Channel-Identifier"
     ∷ known "Content-Length"
     ∷ known "Content-Type"
@@ -153,4 +153,4 @@ pub known-names :
     ∷ Unknown
     ∷ []
 unfolding known known_of
-known-names = refl
+known_names_lem = refl

@@ -21,7 +21,7 @@ module _ (x a b c d e : Setting) where
   abbrev before : Edition
   before = edition a b c d e
 
-  pub own-place :
+  pub own_place :
       setting killOnBargeIn x before
       ∷ setting fetchTimeout x before
       ∷ setting noInputTimeout x before
@@ -34,7 +34,7 @@ module _ (x a b c d e : Setting) where
       ∷ (a ∷ b ∷ c ∷ x ∷ e ∷ [])
       ∷ (a ∷ b ∷ c ∷ d ∷ x ∷ [])
       ∷ []
-  own-place = refl
+  own_place = refl
 
 -- ---- the numbers of the editions
 

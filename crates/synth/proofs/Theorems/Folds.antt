@@ -106,7 +106,7 @@ left = refl
 abbrev pub sets : List String → Call
 sets fields = asks "SET-PARAMS 9" (ours ∷ fields) ""
 
-pub settings-folded :
+pub settings_folded :
     on synthesizer (sets ("Fetch-Timeout:\r\n 12\r\n " ∷ []))
     ∷ on synthesizer (sets ("Fetch-Timeout:1\r\n 2" ∷ []))  -- reads `1 2`
     ∷ on synthesizer (sets ("Kill-On-Barge-In:\r\n\tTRUE" ∷ []))
@@ -115,12 +115,12 @@ pub settings-folded :
     ∷ []
     ≡ 200 ∷ 404 ∷ 200 ∷ 404 ∷ 200 ∷ []
 unfolding on synthesizer opened replies hears_bytes digits digits_within self_length
-settings-folded = refl
+settings_folded = refl
 
-pub settings-left :
+pub settings_left :
     (leaves synthesizer (sets ("Fetch-Timeout:\r\n 012\r\n " ∷ "Kill-On-Barge-In:\r\n false" ∷ []) ∷ [])).editions
     ≡ edition (Setting.Flag false) (Setting.Millis 12) Setting.Unset Setting.Unset Setting.Unset
     ∷ unset
     ∷ []
 unfolding synthesizer opened leaves digits digits_within self_length
-settings-left = refl
+settings_left = refl

@@ -159,7 +159,7 @@ abbrev pub strange : Field (List ℕ)
 strange = field "Voice-Gender" "x"
 
 -- 6 of SET-PARAMS and GET-PARAMS: 403 after 1 to 5, and before 404
-pub of-settings :
+pub of_settings :
     on idle (sets 9 (to_us ∷ strange ∷ []))
     ∷ on idle (gets 9 (to_us ∷ strange ∷ []))
     ∷ on idle (versioned 2 1 (sets 9 (to_us ∷ strange ∷ [])))  -- 1
@@ -193,7 +193,7 @@ pub of-settings :
     ∷ (200 then-above 21)
     ∷ []
 unfolding fresh idle full row on ◌then-above◌ judges
-of-settings = refl
+of_settings = refl
 
 -- 11: what passes all of them, and whether a field was ignored
 pub passing :

@@ -27,7 +27,7 @@ kinds =
     map (λ (name : String). kind_of (bytes name))
     ("7f3a@speechsynth" ∷ "7f3a@speechrecog" ∷ "@speechrecog" ∷ "7f3a@speechsynth@speechrecog" ∷ "7f3a@speechRecog" ∷ "7f3a@speechrecog " ∷ "speechrecog" ∷ "" ∷ [])
 
-pub kind-names :
+pub kind_names :
     kinds
     ≡ Kind.Synthesizer
     ∷ Kind.Recognizer
@@ -39,7 +39,7 @@ pub kind-names :
     ∷ Kind.Synthesizer
     ∷ []
 unfolding kinds kind_of
-kind-names = refl
+kind_names = refl
 
 pub most_outstanding : most Kind.Synthesizer ∷ most Kind.Recognizer ∷ [] ≡ 16 ∷ 8 ∷ []
 most_outstanding = refl
@@ -52,7 +52,7 @@ heard_by kind =
     ("SPEAK" ∷ "STOP" ∷ "PAUSE" ∷ "RESUME" ∷ "CONTROL" ∷ "BARGE-IN-OCCURRED" ∷ "RECOGNIZE" ∷ "START-INPUT-TIMERS" ∷ "SET-PARAMS"
     ∷ "GET-PARAMS" ∷ "LISTEN" ∷ "Recognize" ∷ "Get-Params" ∷ [])
 
-pub a-synthesizer-hears :
+pub a_synthesizer_hears :
     heard_by Kind.Synthesizer
     ≡ Method.Speak
     ∷ Method.Stop
@@ -69,9 +69,9 @@ pub a-synthesizer-hears :
     ∷ Method.Unknown
     ∷ []
 unfolding heard_by method_of
-a-synthesizer-hears = refl
+a_synthesizer_hears = refl
 
-pub a-recognizer-hears :
+pub a_recognizer_hears :
     heard_by Kind.Recognizer
     ≡ Method.Unknown
     ∷ Method.Stop
@@ -88,7 +88,7 @@ pub a-recognizer-hears :
     ∷ Method.Unknown
     ∷ []
 unfolding heard_by method_of
-a-recognizer-hears = refl
+a_recognizer_hears = refl
 
 -- ---- nothing acts in a method that the kind lacks, but the two fields that act everywhere
 
@@ -147,7 +147,7 @@ recognizer = channel "7f3a@speechrecog" Recognizing (killed 7 ∷ []) (Seen 8)
 pub synthesizer : View
 synthesizer = channel "7f3a@speechsynth" Speaking (killed 7 ∷ []) (Seen 8)
 
-pub of-the-other-kind :
+pub of_the_other_kind :
     at recognizer "MRCP/2.0 126 SPEAK 9\r\nChannel-Identifier:7f3a@speechrecog\r\nContent-Type:text/plain\r\nContent-Length:2\r\nKill-On-Barge-In:x\r\n\r\nHi"
     ∷ at recognizer "MRCP/2.0 60 PAUSE 9\r\nChannel-Identifier:7f3a@speechrecog\r\n\r\n"
     ∷ at recognizer "MRCP/2.0 61 RESUME 9\r\nChannel-Identifier:7f3a@speechrecog\r\n\r\n"
@@ -158,10 +158,10 @@ pub of-the-other-kind :
     ∷ []
     ≡ 401 ∷ 401 ∷ 401 ∷ 401 ∷ 401 ∷ 401 ∷ 401 ∷ []
 unfolding recognizer synthesizer at replies hears_bytes
-of-the-other-kind = refl
+of_the_other_kind = refl
 
 -- STOP, SET-PARAMS and GET-PARAMS are methods of both
-pub of-both :
+pub of_both :
     at recognizer "MRCP/2.0 59 STOP 9\r\nChannel-Identifier:7f3a@speechrecog\r\n\r\n"
     ∷ at synthesizer "MRCP/2.0 59 STOP 9\r\nChannel-Identifier:7f3a@speechsynth\r\n\r\n"
     ∷ at recognizer "MRCP/2.0 65 SET-PARAMS 9\r\nChannel-Identifier:7f3a@speechrecog\r\n\r\n"
@@ -171,11 +171,11 @@ pub of-both :
     ∷ []
     ≡ 200 ∷ 200 ∷ 200 ∷ 200 ∷ 200 ∷ 200 ∷ []
 unfolding recognizer synthesizer at replies hears_bytes
-of-both = refl
+of_both = refl
 
 -- ---- the eighth known name counts once on either kind, and acts in RECOGNIZE and SET-PARAMS alone
 
-pub threshold-elsewhere :
+pub threshold_elsewhere :
     at recognizer "MRCP/2.0 83 STOP 9\r\nChannel-Identifier:7f3a@speechrecog\r\nConfidence-Threshold:x\r\n\r\n"
     ∷ at synthesizer "MRCP/2.0 83 STOP 9\r\nChannel-Identifier:7f3a@speechsynth\r\nConfidence-Threshold:x\r\n\r\n"
     ∷ at recognizer "MRCP/2.0 108 STOP 9\r\nChannel-Identifier:7f3a@speechrecog\r\nConfidence-Threshold:0\r\nCONFIDENCE-THRESHOLD:0\r\n\r\n"
@@ -183,4 +183,4 @@ pub threshold-elsewhere :
     ∷ []
     ≡ 201 ∷ 201 ∷ 404 ∷ 404 ∷ []
 unfolding recognizer synthesizer at replies hears_bytes
-threshold-elsewhere = refl
+threshold_elsewhere = refl

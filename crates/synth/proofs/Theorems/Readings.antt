@@ -104,8 +104,8 @@ unfolding at fresh speaking paused full opened replies hears_bytes
 readings = refl
 
 -- 19, and the wrong turn of starting the next SPEAK after the active one was stopped while paused: 3 is active, and paused
-pub still-paused :
+pub still_paused :
     leaves paused (lends "MRCP/2.0 87 STOP 9\r\nChannel-Identifier:7f3a@speechsynth\r\nActive-Request-Id-List:2,1\r\n\r\n" ∷ [])
     ≡ holding Paused (3 ∷ []) 9
 unfolding paused leaves
-still-paused = refl
+still_paused = refl

@@ -68,7 +68,7 @@ recognizes fs = asks Method.Recognize (typed ∷ sized ∷ fs) "Hi"
 abbrev pub stops : String → Request
 stops list = asks Method.Stop (field "Active-Request-Id-List" list ∷ []) ""
 
-pub while-idle :
+pub while_idle :
     on idle (recognizes [])
     ∷ on idle (plain Method.Stop)
     ∷ on idle (stops "7")
@@ -80,9 +80,9 @@ pub while-idle :
     ∷ gives 402 Complete none Idle []
     ∷ []
 unfolding idle recognizes row on gives judges
-while-idle = refl
+while_idle = refl
 
-pub while-recognizing :
+pub while_recognizing :
     on recognizing (recognizes [])
     ∷ on recognizing (plain Method.Stop)
     ∷ on recognizing (stops "7")
@@ -100,9 +100,9 @@ pub while-recognizing :
     ∷ gives 200 Complete none Recognizing (beyond halfway 7 ∷ killed 8 ∷ [])
     ∷ []
 unfolding recognizing recognizes row on gives lists judges
-while-recognizing = refl
+while_recognizing = refl
 
-pub while-recognized :
+pub while_recognized :
     on recognized (recognizes [])
     ∷ on recognized (plain Method.Stop)
     ∷ on recognized (stops "7")
@@ -114,7 +114,7 @@ pub while-recognized :
     ∷ gives 402 Complete none Recognized []
     ∷ []
 unfolding recognized recognizes row on gives judges
-while-recognized = refl
+while_recognized = refl
 
 -- settings: in every state, and state and queue stay
 pub anywhere :
@@ -136,7 +136,7 @@ unfolding idle recognizing recognized row on gives judges
 anywhere = refl
 
 -- exactly eight are too many for one more, and that is judged last
-pub with-eight :
+pub with_eight :
     on (holding Recognizing (map killed (1 ∷ 2 ∷ 3 ∷ 4 ∷ 5 ∷ 6 ∷ 7 ∷ []))) (recognizes [])
     ∷ on full (recognizes [])
     ∷ on full (asks Method.Recognize (field "Content-Type" "text/plain" ∷ sized ∷ []) "Hi")
@@ -148,7 +148,7 @@ pub with-eight :
     ∷ gives 200 Complete none Recognizing (map killed (1 ∷ 2 ∷ 3 ∷ 4 ∷ 5 ∷ 6 ∷ 7 ∷ 8 ∷ []))
     ∷ []
 unfolding full recognizes row on gives judges
-with-eight = refl
+with_eight = refl
 
 -- length, type and body, as SPEAK wants them; and the fields that are ignored in it
 pub judged :
@@ -249,7 +249,7 @@ unfolding recognizing reported ends leaving refusing
 by_cause = refl
 
 -- three waiting ones end in queue order; the last one leaves the channel recognized, whatever the cause
-pub in-queue-order :
+pub in_queue_order :
     reported (holding Recognizing (map killed (2 ∷ 3 ∷ 5 ∷ 8 ∷ []))) 6 one
     ∷ reported (holding Recognizing (map killed (2 ∷ 3 ∷ 5 ∷ 8 ∷ []))) 0 one
     ∷ reported (holding Recognizing (map killed (8 ∷ []))) 0 one
@@ -263,10 +263,10 @@ pub in-queue-order :
     ∷ leaving Recognized [] (ends 8 "015 no-match-maxtime" ∷ [])
     ∷ []
 unfolding reported ends leaving
-in-queue-order = refl
+in_queue_order = refl
 
 -- 21 before 9, 9 before 8; 8 outside recognizing
-pub refused-reports :
+pub refused_reports :
     reported idle 0 one
     ∷ reported idle 16 one
     ∷ reported recognized 0 one
@@ -280,4 +280,4 @@ pub refused-reports :
     ∷ refusing 21 (holding Recognized (killed 7 ∷ []))
     ∷ []
 unfolding idle recognized reported refusing
-refused-reports = refl
+refused_reports = refl

@@ -202,10 +202,10 @@ unfolding counts_001 R.reported ends leaving
 own_threshold = refl
 
 -- a synthesizer's report, whatever the score
-pub synthesizer-unscored :
+pub synthesizer_unscored :
     R.reported (channel "7f3a@speechsynth" Speaking (killed 7 ∷ killed 8 ∷ []) (Seen 8)) 0 no_number_lem
     ∷ []
     ≡ R.reported (channel "7f3a@speechsynth" Speaking (killed 7 ∷ killed 8 ∷ []) (Seen 8)) 0 one
     ∷ []
 unfolding R.reported
-synthesizer-unscored = refl
+synthesizer_unscored = refl

@@ -54,13 +54,13 @@ abbrev held : ℕ → ℕ → Level
 held millionths bits = record { millionths = millionths; single = of_bits binary32 bits }
 
 -- the text is that of the millionths, whatever the bits
-pub level-texts :
+pub level_texts :
     map level_text (held 0 0 ∷ held 1 897988541 ∷ held 500000 1056964608 ∷ held 999999 0 ∷ held 1000000 0 ∷ [])
     ≡ bytes "0.000000" ∷ bytes "0.000001" ∷ bytes "0.500000" ∷ bytes "0.999999" ∷ bytes "1.000000" ∷ []
 unfolding digits digits_within three_digits
-level-texts = refl
+level_texts = refl
 
-pub kept-levels :
+pub kept_levels :
     is_kept (held 0 0)
     ∷ is_kept (held 500000 1056964608)
     ∷ is_kept (held 1000000 1065353216)
@@ -74,7 +74,7 @@ pub kept-levels :
     ∷ []
     ≡ true ∷ true ∷ true ∷ false ∷ false ∷ false ∷ false ∷ false ∷ false ∷ false ∷ []
 unfolding is_kept quotient div of_int round units odd size climb span to_bits of_bits
-kept-levels = refl
+kept_levels = refl
 
 -- ---- settings
 
@@ -93,7 +93,7 @@ every = killOnBargeIn ∷ fetchTimeout ∷ noInputTimeout ∷ confidenceThreshol
 abbrev legal : String → List Bool
 legal text = map (λ (n : Name). is_legal n (bytes text)) every
 
-pub legal-values :
+pub legal_values :
     map legal ("true" ∷ "FALSE" ∷ "" ∷ "1" ∷ "7" ∷ "0.5" ∷ "9999999999999999999" ∷ "09999999999999999999" ∷ "-1" ∷ [])
     ≡ (true ∷ false ∷ false ∷ false ∷ false ∷ [])
     ∷ (true ∷ false ∷ false ∷ false ∷ false ∷ [])
@@ -106,13 +106,13 @@ pub legal-values :
     ∷ (false ∷ false ∷ false ∷ false ∷ false ∷ [])
     ∷ []
 unfolding level_in quotient div of_int round units odd size climb span to_bits
-legal-values = refl
+legal_values = refl
 
 -- a value, as it is told after it was set
 abbrev told : Name → String → List ℕ
 told n text = setting_text (setting_in n (bytes text))
 
-pub told-values :
+pub told_values :
     told killOnBargeIn "TRUE"
     ∷ told killOnBargeIn "False"
     ∷ told fetchTimeout "0000000000000000007"
@@ -123,7 +123,7 @@ pub told-values :
     ∷ []
     ≡ bytes "true" ∷ bytes "false" ∷ bytes "7" ∷ bytes "0" ∷ bytes "0.500000" ∷ bytes "1.000000" ∷ [] ∷ []
 unfolding level_in digits digits_within three_digits
-told-values = refl
+told_values = refl
 
 -- a text of 19 bytes
 pub reached : length (setting_text (Setting.Millis 9999999999999999999)) ≡ 19
@@ -134,7 +134,7 @@ reached = refl
 abbrev keeps : Setting → List Bool
 keeps x = map (λ (n : Name). kept_for n x) every
 
-pub kept-settings :
+pub kept_settings :
     keeps Setting.Unset
     ∷ keeps (Setting.Flag false)
     ∷ keeps (Setting.Millis 9999999999999999999)
@@ -150,7 +150,7 @@ pub kept-settings :
     ∷ (false ∷ false ∷ false ∷ false ∷ false ∷ [])
     ∷ []
 unfolding is_kept quotient div of_int round units odd size climb span to_bits of_bits
-kept-settings = refl
+kept_settings = refl
 
 -- ---- editions
 
@@ -178,7 +178,7 @@ of_kind kind =
     ∷ [])
     ∷ []
 
-pub of-a-synthesizer :
+pub of_a_synthesizer :
     of_kind Kind.Synthesizer
     ≡ (true ∷ false ∷ false ∷ false ∷ false ∷ [])
     ∷ (false ∷ true ∷ false ∷ false ∷ false ∷ [])
@@ -186,9 +186,9 @@ pub of-a-synthesizer :
     ∷ (true ∷ true ∷ false ∷ false ∷ [])
     ∷ []
 unfolding is_kept quotient div of_int round units odd size climb span to_bits of_bits
-of-a-synthesizer = refl
+of_a_synthesizer = refl
 
-pub of-a-recognizer :
+pub of_a_recognizer :
     of_kind Kind.Recognizer
     ≡ (false ∷ false ∷ false ∷ false ∷ false ∷ [])
     ∷ (false ∷ false ∷ true ∷ false ∷ false ∷ [])
@@ -196,7 +196,7 @@ pub of-a-recognizer :
     ∷ (true ∷ false ∷ true ∷ false ∷ [])
     ∷ []
 unfolding is_kept quotient div of_int round units odd size climb span to_bits of_bits
-of-a-recognizer = refl
+of_a_recognizer = refl
 
 -- four editions of another Fetch-Timeout each, and a fifth in front
 abbrev numbered : ℕ → Edition

@@ -46,7 +46,7 @@ abbrev awaiting : String → State → ℕ → Bool
 awaiting name state threshold = sound (channel name state (beyond threshold 9 ∷ []) (Seen 9))
 
 -- how many
-pub one-to-four :
+pub one_to_four :
     synth []  -- none
     ∷ synth (unset ∷ [])
     ∷ synth (unset ∷ unset ∷ unset ∷ unset ∷ [])
@@ -58,7 +58,7 @@ pub one-to-four :
     ≡ false ∷ true ∷ true ∷ false ∷ false ∷ true ∷ false ∷ []
 unfolding sound shaped well_named kind_of are_editions is_kept quotient div of_int round units odd size climb span to_bits
     of_bits
-one-to-four = refl
+one_to_four = refl
 
 pub synthesizers :
     synth (speaks (Setting.Flag false) (Setting.Millis 9999999999999999999) ∷ [])

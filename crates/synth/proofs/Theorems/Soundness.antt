@@ -83,7 +83,7 @@ soundness = refl
 pub eight : List ℕ
 eight = 1 ∷ 2 ∷ 3 ∷ 4 ∷ 5 ∷ 6 ∷ 7 ∷ 8 ∷ []
 
-pub soundness-of-a-recognizer :
+pub soundness_of_a_recognizer :
     recognizer Idle [] NoneSeen
     ∷ recognizer Idle [] (Seen 8)
     ∷ recognizer Recognizing (7 ∷ 9 ∷ []) (Seen 9)
@@ -101,7 +101,7 @@ pub soundness-of-a-recognizer :
     ∷ []
     ≡ true ∷ true ∷ true ∷ true ∷ true ∷ false ∷ false ∷ false ∷ false ∷ false ∷ false ∷ false ∷ false ∷ false ∷ []
 unfolding recognizer eight sound shaped are_editions well_named kind_of
-soundness-of-a-recognizer = refl
+soundness_of_a_recognizer = refl
 
 pub opens : String → Opened
 opens name = open_channel (bytes name)

@@ -118,11 +118,11 @@ unfolding read
 levels = refl
 
 -- above one; no digit in front, or behind; two in front; seven places; none; another digit; a sign; something else
-pub no-levels :
+pub no_levels :
     read ("1.000001" ∷ "1.1" ∷ ".5" ∷ "0." ∷ "00.5" ∷ "0.5000000" ∷ "" ∷ "2" ∷ "-0" ∷ "+1" ∷ "0,5" ∷ "0.5a" ∷ "0.5.5" ∷ "0 " ∷ [])
     ≡ none ∷ none ∷ none ∷ none ∷ none ∷ none ∷ none ∷ none ∷ none ∷ none ∷ none ∷ none ∷ none ∷ none ∷ []
 unfolding read
-no-levels = refl
+no_levels = refl
 
 abbrev pub at_least : String → Field (List ℕ)
 at_least text = field "Confidence-Threshold" text

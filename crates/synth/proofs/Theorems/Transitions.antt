@@ -53,11 +53,11 @@ stops list = asks Method.Stop (field "Active-Request-Id-List" list ∷ []) ""
 pub methods : List Method
 methods = map (λ (name : String). method_of (bytes name)) ("SPEAK" ∷ "STOP" ∷ "PAUSE" ∷ "RESUME" ∷ "CONTROL" ∷ "BARGE-IN-OCCURRED" ∷ "LISTEN" ∷ "Stop" ∷ [])
 
-pub method-names :
+pub method_names :
     methods
     ≡ Method.Speak ∷ Method.Stop ∷ Method.Pause ∷ Method.Resume ∷ Method.Control ∷ Method.BargeInOccurred ∷ Method.Unknown ∷ Method.Unknown ∷ []
 unfolding methods method_of
-method-names = refl
+method_names = refl
 
 -- what is answered, the list field where there is one, and the channel's state and queue afterwards
 pub record Row : Type 0 where
@@ -98,7 +98,7 @@ gives status progress listed state queue =
 unfoldable pub lists : String → Option (List ℕ)
 lists text = some (bytes text)
 
-pub while-idle :
+pub while_idle :
     on idle speak
     ∷ on idle sparing
     ∷ on idle (plain Method.Stop)
@@ -118,9 +118,9 @@ pub while-idle :
     ∷ gives 200 Complete none Idle []
     ∷ []
 unfolding idle speak sparing row on gives judges
-while-idle = refl
+while_idle = refl
 
-pub while-speaking :
+pub while_speaking :
     on speaking speak
     ∷ on speaking sparing
     ∷ on speaking (plain Method.Stop)
@@ -148,9 +148,9 @@ pub while-speaking :
     ∷ gives 200 Complete none Speaking (spared 7 ∷ killed 8 ∷ [])
     ∷ []
 unfolding speaking speak sparing row on gives lists judges
-while-speaking = refl
+while_speaking = refl
 
-pub while-paused :
+pub while_paused :
     on paused speak
     ∷ on paused sparing
     ∷ on paused (plain Method.Stop)
@@ -178,7 +178,7 @@ pub while-paused :
     ∷ gives 200 Complete none Paused (spared 7 ∷ killed 8 ∷ [])
     ∷ []
 unfolding paused speak sparing row on gives lists judges
-while-paused = refl
+while_paused = refl
 
 -- settings: in every state, and state and queue stay
 pub anywhere :
@@ -220,7 +220,7 @@ pub ◌leaves◌with◌ : ℕ → State → List Entry → Report
 
 infix 20 ◌leaves◌with◌
 -- 21 before 9, 9 before 8
-pub on-report :
+pub on_report :
     reported speaking 0
     ∷ reported (holding Speaking (spared 8 ∷ [])) 7
     ∷ reported speaking 8
@@ -240,4 +240,4 @@ pub on-report :
     ∷ (21 leaves Idle with (killed 7 ∷ []))
     ∷ []
 unfolding idle speaking paused reported replies leaves ◌leaves◌with◌
-on-report = refl
+on_report = refl

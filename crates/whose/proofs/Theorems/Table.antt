@@ -71,7 +71,7 @@ answers = refl
 pub front : ℕ → ℕ → Whose
 front lent n = whose (take lent (bytes "MRCP/2.0 999 " ++ replicate n 65 ++ bytes "\r\nX"))
 
-pub around-128 :
+pub around_128 :
     front 126 112  -- the CRLF ends at byte 127
     ∷ front 127 112
     ∷ front 127 113  -- at 128
@@ -89,4 +89,4 @@ pub around-128 :
     ∷ Malformed
     ∷ []
 unfolding front whose opening
-around-128 = refl
+around_128 = refl
