@@ -16,8 +16,8 @@ use denote.Laws.{Is}
 use Rattle.lists.specs.Lists.{all}
 use Rattle.lists.proofs.Tests.{both}
 use Rattle.answer.specs.declared.Kind.{Kind}
-use Rattle.synth.specs.Settings.{Sort, flag, millis, level, killOnBargeIn, fetchTimeout, noInputTimeout, confidenceThreshold}
-use Rattle.synth.specs.Settings.{sensitivityLevel, settings, slot, kept_as, kept_for, is_unset, other_kind, is_edition_of}
+use Rattle.synth.specs.Settings.{Sort, flag, millis, level, kill_on_barge_in, fetch_timeout, no_input_timeout, confidence_threshold}
+use Rattle.synth.specs.Settings.{sensitivity_level, settings, slot, kept_as, kept_for, is_unset, other_kind, is_edition_of}
 use Rattle.synth.specs.declared.Setting.{Setting}
 use Rattle.synth.specs.declared.Edition.{Edition}
 use Rattle.synth.proofs.Levels.{kept_exact}
@@ -80,11 +80,11 @@ module _ (e : Edition) (vs : List Val) (good : Is E.the_row e vs) where
       (all (λ n. is_unset (slot n e)) (settings (other_kind kind))) h in
       record {
         told = (
-          kept_told flag e.kill single_kill (kept killOnBargeIn),
-          kept_told millis e.fetch single_fetch (kept fetchTimeout),
-          kept_told millis e.silence single_silence (kept noInputTimeout),
-          kept_told level e.confidence single_confidence (kept confidenceThreshold),
-          kept_told level e.sensitivity single_sensitivity (kept sensitivityLevel),
+          kept_told flag e.kill single_kill (kept kill_on_barge_in),
+          kept_told millis e.fetch single_fetch (kept fetch_timeout),
+          kept_told millis e.silence single_silence (kept no_input_timeout),
+          kept_told level e.confidence single_confidence (kept confidence_threshold),
+          kept_told level e.sensitivity single_sensitivity (kept sensitivity_level),
         );
         others = q.1;
       }

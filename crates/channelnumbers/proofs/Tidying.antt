@@ -9,7 +9,7 @@ use native.Mathlib.Omega.{arith}
 use lib.ListN.{length, take, drop, get_or, set, length-replicate, get_or-replicate, drop_of_length-le}
 use lib.Seq.{take-suc, take_all, take-paste, drop-paste, set-get_or, get_or-set_other, get_or-drop}
 use Rattle.answer.specs.declared.Kind.{Kind}
-use Rattle.synth.specs.Settings.{Name, killOnBargeIn, fetchTimeout, noInputTimeout, confidenceThreshold, sensitivityLevel}
+use Rattle.synth.specs.Settings.{Name, kill_on_barge_in, fetch_timeout, no_input_timeout, confidence_threshold, sensitivity_level}
 use Rattle.synth.specs.Settings.{settings, edition, unset}
 use Rattle.synth.specs.declared.Setting.{Setting}
 use Rattle.synth.specs.declared.Edition.{Edition}
@@ -39,7 +39,7 @@ none_some : {e : Edition} → ◌≡◌ {A = Option Edition} none (some e) → �
 none_some p = false≢true (ap (λ (o : Option Edition). elim o [ none ↦ false | some e ↦ true ]) p)
 
 two_kept : (s v t u : ℕ) (a b : Option Setting) → KeptAt s v a → KeptAt t u b → (e : Edition)
-    → with_setting killOnBargeIn a (with_setting fetchTimeout b (some unset)) ≡ some e
+    → with_setting kill_on_barge_in a (with_setting fetch_timeout b (some unset)) ≡ some e
     → s ∷ value_kept s v ∷ t ∷ value_kept t u ∷ 0 ∷ 0 ∷ [] ≡ edition_numbers Kind.Synthesizer e
 two_kept s v t u none b p q e h = absurd (none_some h)
 two_kept s v t u (some x) none p q e h = absurd (none_some h)
@@ -49,7 +49,7 @@ two_kept s v t u (some x) (some y) p q e h =
     (some-injective (edition x y Setting.Unset Setting.Unset Setting.Unset) e h)
 
 three_kept : (s v t u m n : ℕ) (a b c : Option Setting) → KeptAt s v a → KeptAt t u b → KeptAt m n c → (e : Edition)
-    → with_setting noInputTimeout a (with_setting confidenceThreshold b (with_setting sensitivityLevel c (some unset)))
+    → with_setting no_input_timeout a (with_setting confidence_threshold b (with_setting sensitivity_level c (some unset)))
     ≡ some e
     → s ∷ value_kept s v ∷ t ∷ value_kept t u ∷ m ∷ value_kept m n ∷ [] ≡ edition_numbers Kind.Recognizer e
 three_kept s v t u m n none b c p q r e h = absurd (none_some h)

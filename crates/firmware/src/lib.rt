@@ -1,4 +1,5 @@
-// The C face of framing and reading: numbers and buffers in, numbers out. include/klarvesimo.h is its manual.
+// Framing and reading as C calls them, by `firmware_c`: numbers and buffers in, numbers out. include/klarvesimo.h is
+// their manual.
 #![tactic(auto)]
 
 ghost use Rattle.std.specs.Prelude.{◌≡◌};

@@ -1,5 +1,5 @@
-// The C face of a channel, kept by the caller as 89 numbers. include/klarvesimo.h is its manual; framing and reading
-// alone are in `firmware`.
+// A channel as C calls it, by `klarvesimo_c`, kept by the caller as 89 numbers. include/klarvesimo.h is the manual;
+// framing and reading alone are in `firmware`.
 #![tactic(auto)]
 
 ghost use Rattle.std.specs.Prelude.{◌≡◌, ◌++◌, ◌≤◌, length, take, drop};

@@ -14,7 +14,7 @@ use Rattle.lists.specs.Lists.{all}
 use Rattle.lists.proofs.Tests.{both, refuted}
 use Rattle.answer.specs.declared.Kind.{Kind}
 use Rattle.synth.specs.Levels.{single}
-use Rattle.synth.specs.Settings.{Sort, flag, millis, level, killOnBargeIn, fetchTimeout, noInputTimeout, confidenceThreshold, sensitivityLevel, settings, edition, unset, is_kept, kept_as, is_edition_of, newest, edition_at}
+use Rattle.synth.specs.Settings.{Sort, flag, millis, level, kill_on_barge_in, fetch_timeout, no_input_timeout, confidence_threshold, sensitivity_level, settings, edition, unset, is_kept, kept_as, is_edition_of, newest, edition_at}
 use Rattle.synth.specs.Channel.{are_editions}
 use Rattle.synth.specs.declared.Level.{Level}
 use Rattle.synth.specs.declared.Setting.{Setting}
@@ -105,10 +105,10 @@ level_read (suc (suc (suc (suc n)))) v r a b c e = λ s h. absurd (false≢true 
 -- ---- an edition
 
 abbrev two : Option Setting → Option Setting → Option Edition
-two o p = with_setting killOnBargeIn o (with_setting fetchTimeout p (some unset))
+two o p = with_setting kill_on_barge_in o (with_setting fetch_timeout p (some unset))
 
 abbrev three : Option Setting → Option Setting → Option Setting → Option Edition
-three o p q = with_setting noInputTimeout o (with_setting confidenceThreshold p (with_setting sensitivityLevel q (some unset)))
+three o p q = with_setting no_input_timeout o (with_setting confidence_threshold p (with_setting sensitivity_level q (some unset)))
 
 last_off : (a : Bool) → false ≡ (a && false)
 last_off true = refl

@@ -11,8 +11,8 @@ use Rattle.message.specs.declared.Known.TheVariants.{KillOnBargeIn, ConfidenceTh
 use Rattle.message.specs.declared.Known.TheVariants.{NoInputTimeout, SensitivityLevel}
 use Rattle.answer.specs.declared.Kind.{Kind}
 use Rattle.synth.specs.Levels.{is_level}
-use Rattle.synth.specs.Settings.{Name, killOnBargeIn, fetchTimeout, noInputTimeout, confidenceThreshold}
-use Rattle.synth.specs.Settings.{sensitivityLevel, settings, sort_of, field_of, slot, with_slot}
+use Rattle.synth.specs.Settings.{Name, kill_on_barge_in, fetch_timeout, no_input_timeout, confidence_threshold}
+use Rattle.synth.specs.Settings.{sensitivity_level, settings, sort_of, field_of, slot, with_slot}
 use Rattle.synth.specs.Settings.{is_flag, is_millis, is_legal, setting_in}
 use Rattle.synth.specs.Request.{Request, acting}
 use Rattle.synth.specs.Judgement.{unless, optional, legal}
@@ -37,11 +37,11 @@ with_taken n Taken.Illegal (Changed.To e) = Changed.Illegal
 with_taken n (Taken.As x) (Changed.To e) = Changed.To (with_slot n x e)
 
 as_it_was : (n : Name) (e : Edition) → with_slot n (slot n e) e ≡ e
-as_it_was killOnBargeIn e = refl
-as_it_was fetchTimeout e = refl
-as_it_was noInputTimeout e = refl
-as_it_was confidenceThreshold e = refl
-as_it_was sensitivityLevel e = refl
+as_it_was kill_on_barge_in e = refl
+as_it_was fetch_timeout e = refl
+as_it_was no_input_timeout e = refl
+as_it_was confidence_threshold e = refl
+as_it_was sensitivity_level e = refl
 
 -- what the value o, where it is given, sets in an edition
 abbrev pub taken_for : Name → Option (List ℕ) → Edition → Taken
@@ -68,37 +68,37 @@ stays n m none e h = refl
 stays n m (some v) e h = h (setting_in n v)
 
 abbrev pub with_two : Taken → Taken → Edition → Changed
-with_two kill fetch e = with_taken fetchTimeout fetch (with_taken killOnBargeIn kill (Changed.To e))
+with_two kill fetch e = with_taken fetch_timeout fetch (with_taken kill_on_barge_in kill (Changed.To e))
 
 two : (a b : Option (List ℕ)) (e : Edition)
-    → with_two (taken_for killOnBargeIn a e) (taken_for fetchTimeout b e) e
-    ≡ changed_as (unless (optional is_flag a && optional is_millis b) 404) (set_by fetchTimeout b (set_by killOnBargeIn a e))
+    → with_two (taken_for kill_on_barge_in a e) (taken_for fetch_timeout b e) e
+    ≡ changed_as (unless (optional is_flag a && optional is_millis b) 404) (set_by fetch_timeout b (set_by kill_on_barge_in a e))
 unfolding unless
 two a b e =
-    ap (with_taken fetchTimeout (taken_for fetchTimeout b e)) (step true killOnBargeIn a e e refl)
-    ∙ step (optional is_flag a) fetchTimeout b e (set_by killOnBargeIn a e)
-    (stays killOnBargeIn fetchTimeout a e (λ x. refl))
+    ap (with_taken fetch_timeout (taken_for fetch_timeout b e)) (step true kill_on_barge_in a e e refl)
+    ∙ step (optional is_flag a) fetch_timeout b e (set_by kill_on_barge_in a e)
+    (stays kill_on_barge_in fetch_timeout a e (λ x. refl))
 
 abbrev pub with_three : Taken → Taken → Taken → Edition → Changed
 with_three silence confidence sensitivity e =
-    with_taken sensitivityLevel sensitivity
-    (with_taken confidenceThreshold confidence (with_taken noInputTimeout silence (Changed.To e)))
+    with_taken sensitivity_level sensitivity
+    (with_taken confidence_threshold confidence (with_taken no_input_timeout silence (Changed.To e)))
 
 three : (a b d : Option (List ℕ)) (e : Edition)
-    → with_three (taken_for noInputTimeout a e) (taken_for confidenceThreshold b e) (taken_for sensitivityLevel d e) e
+    → with_three (taken_for no_input_timeout a e) (taken_for confidence_threshold b e) (taken_for sensitivity_level d e) e
     ≡ changed_as (unless (optional is_millis a && optional is_level b && optional is_level d) 404)
-    (set_by sensitivityLevel d (set_by confidenceThreshold b (set_by noInputTimeout a e)))
+    (set_by sensitivity_level d (set_by confidence_threshold b (set_by no_input_timeout a e)))
 unfolding unless
 three a b d e =
-    let one = set_by noInputTimeout a e in
-    ap (λ x. with_taken sensitivityLevel (taken_for sensitivityLevel d e)
-    (with_taken confidenceThreshold (taken_for confidenceThreshold b e) x))
-    (step true noInputTimeout a e e refl)
-    ∙ ap (with_taken sensitivityLevel (taken_for sensitivityLevel d e))
-    (step (optional is_millis a) confidenceThreshold b e one (stays noInputTimeout confidenceThreshold a e (λ x. refl)))
-    ∙ step (optional is_millis a && optional is_level b) sensitivityLevel d e (set_by confidenceThreshold b one)
-    (stays noInputTimeout sensitivityLevel a e (λ x. refl)
-    ∙ stays confidenceThreshold sensitivityLevel b one (λ x. refl))
+    let one = set_by no_input_timeout a e in
+    ap (λ x. with_taken sensitivity_level (taken_for sensitivity_level d e)
+    (with_taken confidence_threshold (taken_for confidence_threshold b e) x))
+    (step true no_input_timeout a e e refl)
+    ∙ ap (with_taken sensitivity_level (taken_for sensitivity_level d e))
+    (step (optional is_millis a) confidence_threshold b e one (stays no_input_timeout confidence_threshold a e (λ x. refl)))
+    ∙ step (optional is_millis a && optional is_level b) sensitivity_level d e (set_by confidence_threshold b one)
+    (stays no_input_timeout sensitivity_level a e (λ x. refl)
+    ∙ stays confidence_threshold sensitivity_level b one (λ x. refl))
 
 -- ---- of the settings that a request gives
 
@@ -111,11 +111,11 @@ module _ (f : List ℕ) (h : Header) (fs : Fields (List ℕ)) (w : Tells true f 
 
   -- what the header gives is what is judged
   told : (n : Name) → given_for n ≡ judged_value (field_of n) (fields_in fs)
-  told killOnBargeIn = w.value KillOnBargeIn refl
-  told fetchTimeout = w.value FetchTimeout refl
-  told noInputTimeout = w.value NoInputTimeout refl
-  told confidenceThreshold = w.value ConfidenceThreshold refl
-  told sensitivityLevel = w.value SensitivityLevel refl
+  told kill_on_barge_in = w.value KillOnBargeIn refl
+  told fetch_timeout = w.value FetchTimeout refl
+  told no_input_timeout = w.value NoInputTimeout refl
+  told confidence_threshold = w.value ConfidenceThreshold refl
+  told sensitivity_level = w.value SensitivityLevel refl
 
   module _ (stand : all_stand Kind.Synthesizer fs ≡ true) where
     by_two : (a b : Bool) → (a && b) ≡ (a && true && true && b && true && true)
@@ -123,29 +123,29 @@ module _ (f : List ℕ) (h : Header) (fs : Fields (List ℕ)) (w : Tells true f 
     by_two true false = refl
     by_two false b = refl
 
-    legal_two : unless (optional is_flag (given_for killOnBargeIn) && optional is_millis (given_for fetchTimeout)) 404
+    legal_two : unless (optional is_flag (given_for kill_on_barge_in) && optional is_millis (given_for fetch_timeout)) 404
         ≡ legal sets
     unfolding legal acting
     legal_two =
         let none_of = no_value f h fs w Kind.Synthesizer stand in
         ap (λ b. unless b 404)
-        (by_two (optional is_flag (given_for killOnBargeIn)) (optional is_millis (given_for fetchTimeout)))
-        ∙ (λ z. unless (optional is_flag (told killOnBargeIn z)
+        (by_two (optional is_flag (given_for kill_on_barge_in)) (optional is_millis (given_for fetch_timeout)))
+        ∙ (λ z. unless (optional is_flag (told kill_on_barge_in z)
         && true
         && optional is_level (sym (none_of ConfidenceThreshold refl refl) z)
-        && optional is_millis (told fetchTimeout z)
+        && optional is_millis (told fetch_timeout z)
         && optional is_millis (sym (none_of NoInputTimeout refl refl) z)
         && optional is_level (sym (none_of SensitivityLevel refl refl) z)) 404)
 
     pub synthesizer_changes : (e : Edition)
-        → with_two (taken_for killOnBargeIn (given_for killOnBargeIn) e)
-        (taken_for fetchTimeout (given_for fetchTimeout) e) e
+        → with_two (taken_for kill_on_barge_in (given_for kill_on_barge_in) e)
+        (taken_for fetch_timeout (given_for fetch_timeout) e) e
         ≡ changed_as (legal sets) (changed (settings Kind.Synthesizer) sets e)
     unfolding acting
     synthesizer_changes e =
-        two (given_for killOnBargeIn) (given_for fetchTimeout) e
+        two (given_for kill_on_barge_in) (given_for fetch_timeout) e
         ∙ (λ z. changed_as (legal_two z)
-        (set_by fetchTimeout (told fetchTimeout z) (set_by killOnBargeIn (told killOnBargeIn z) e)))
+        (set_by fetch_timeout (told fetch_timeout z) (set_by kill_on_barge_in (told kill_on_barge_in z) e)))
 
   module _ (stand : all_stand Kind.Recognizer fs ≡ true) where
     by_three : (a b d : Bool) → (a && b && d) ≡ (true && true && b && true && a && d)
@@ -154,29 +154,29 @@ module _ (f : List ℕ) (h : Header) (fs : Fields (List ℕ)) (w : Tells true f 
     by_three false true d = refl
     by_three false false d = refl
 
-    legal_three : unless (optional is_millis (given_for noInputTimeout)
-        && optional is_level (given_for confidenceThreshold) && optional is_level (given_for sensitivityLevel)) 404
+    legal_three : unless (optional is_millis (given_for no_input_timeout)
+        && optional is_level (given_for confidence_threshold) && optional is_level (given_for sensitivity_level)) 404
         ≡ legal sets
     unfolding legal acting
     legal_three =
         let none_of = no_value f h fs w Kind.Recognizer stand in
         ap (λ b. unless b 404)
-        (by_three (optional is_millis (given_for noInputTimeout)) (optional is_level (given_for confidenceThreshold))
-        (optional is_level (given_for sensitivityLevel)))
+        (by_three (optional is_millis (given_for no_input_timeout)) (optional is_level (given_for confidence_threshold))
+        (optional is_level (given_for sensitivity_level)))
         ∙ (λ z. unless (optional is_flag (sym (none_of KillOnBargeIn refl refl) z)
         && true
-        && optional is_level (told confidenceThreshold z)
+        && optional is_level (told confidence_threshold z)
         && optional is_millis (sym (none_of FetchTimeout refl refl) z)
-        && optional is_millis (told noInputTimeout z)
-        && optional is_level (told sensitivityLevel z)) 404)
+        && optional is_millis (told no_input_timeout z)
+        && optional is_level (told sensitivity_level z)) 404)
 
     pub recognizer_changes : (e : Edition)
-        → with_three (taken_for noInputTimeout (given_for noInputTimeout) e)
-        (taken_for confidenceThreshold (given_for confidenceThreshold) e)
-        (taken_for sensitivityLevel (given_for sensitivityLevel) e) e
+        → with_three (taken_for no_input_timeout (given_for no_input_timeout) e)
+        (taken_for confidence_threshold (given_for confidence_threshold) e)
+        (taken_for sensitivity_level (given_for sensitivity_level) e) e
         ≡ changed_as (legal sets) (changed (settings Kind.Recognizer) sets e)
     unfolding acting
     recognizer_changes e =
-        three (given_for noInputTimeout) (given_for confidenceThreshold) (given_for sensitivityLevel) e
-        ∙ (λ z. changed_as (legal_three z) (set_by sensitivityLevel (told sensitivityLevel z)
-        (set_by confidenceThreshold (told confidenceThreshold z) (set_by noInputTimeout (told noInputTimeout z) e))))
+        three (given_for no_input_timeout) (given_for confidence_threshold) (given_for sensitivity_level) e
+        ∙ (λ z. changed_as (legal_three z) (set_by sensitivity_level (told sensitivity_level z)
+        (set_by confidence_threshold (told confidence_threshold z) (set_by no_input_timeout (told no_input_timeout z) e))))

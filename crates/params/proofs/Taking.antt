@@ -9,7 +9,7 @@ use Rattle.readers.specs.Words.{is_number, number_of}
 use Rattle.message.specs.Folds.{joined}
 use Rattle.synth.specs.Levels.{level_in, is_some}
 use Rattle.synth.specs.Settings as S
-use Rattle.synth.specs.Settings.{Name, killOnBargeIn, fetchTimeout, confidenceThreshold}
+use Rattle.synth.specs.Settings.{Name, kill_on_barge_in, fetch_timeout, confidence_threshold}
 use Rattle.synth.specs.Settings.{sort_of, is_legal, setting_in, level_or}
 use Rattle.synth.specs.declared.Level.{Level}
 use Rattle.synth.specs.declared.Setting.{Setting}
@@ -75,6 +75,6 @@ named_alike n v = go (is_legal n v) refl ∙ ap (by (joined v)) (sym (legal_alik
     go false e = refl
 
 pub taken_alike : (s : S.Sort) (v : List ℕ) → taken_in s v ≡ taken_in s (joined v)
-taken_alike S.flag v = named_alike killOnBargeIn v
-taken_alike S.millis v = named_alike fetchTimeout v
-taken_alike S.level v = named_alike confidenceThreshold v
+taken_alike S.flag v = named_alike kill_on_barge_in v
+taken_alike S.millis v = named_alike fetch_timeout v
+taken_alike S.level v = named_alike confidence_threshold v

@@ -1,4 +1,4 @@
-// The C face of trace files: document 02, K7. include/klarvesimo.h is its manual.
+// Trace files as C is to call them: document 02, K7.
 #![tactic(auto)]
 
 ghost use mathlib.Core.Path.{◌≡◌};

@@ -18,7 +18,7 @@ use Rattle.message.specs.declared.Known.TheVariants.{ContentLength, ContentType,
 use Rattle.message.specs.declared.RequestState.TheVariants.{Pending, InProgress}
 use Rattle.answer.specs.declared.Kind.{Kind}
 use Rattle.synth.specs.Levels.{level_in, is_some, is_level}
-use Rattle.synth.specs.Settings.{noInputTimeout, confidenceThreshold, settings, slot, is_flag, kept_for, is_unset, is_edition_of}
+use Rattle.synth.specs.Settings.{no_input_timeout, confidence_threshold, settings, slot, is_flag, kept_for, is_unset, is_edition_of}
 use Rattle.synth.specs.Kinds.{most}
 use Rattle.synth.specs.Channel.{View, kind, is_busy}
 use Rattle.synth.specs.Request.{Request, opens, acting, ignores_any}
@@ -84,13 +84,13 @@ level_illegal otherwise (some v) e = go (level_in v) e
     go (some l) e = let d : ◌≡◌ {A = ℕ} 0 1 = cc in absurd (omega arith)
 
 -- a level has at most a million millionths, whether it is set or given
-unset_kept : (x : Setting) → is_unset x ≡ true → kept_for confidenceThreshold x ≡ true
+unset_kept : (x : Setting) → is_unset x ≡ true → kept_for confidence_threshold x ≡ true
 unset_kept Setting.Unset e = refl
 unset_kept (Setting.Flag b) e = absurd (false≢true e)
 unset_kept (Setting.Millis n) e = absurd (false≢true e)
 unset_kept (Setting.Level l) e = absurd (false≢true e)
 
-confidence_kept : (k : Kind) (e : Edition) → is_edition_of k e ≡ true → kept_for confidenceThreshold e.confidence ≡ true
+confidence_kept : (k : Kind) (e : Edition) → is_edition_of k e ≡ true → kept_for confidence_threshold e.confidence ≡ true
 confidence_kept Kind.Synthesizer e h =
     let others = (both (all (λ n. kept_for n (slot n e)) (settings Kind.Synthesizer))
     (all (λ n. is_unset (slot n e)) (settings Kind.Recognizer)) h).1 in
@@ -99,9 +99,9 @@ confidence_kept Kind.Synthesizer e h =
 confidence_kept Kind.Recognizer e h =
     let own = (both (all (λ n. kept_for n (slot n e)) (settings Kind.Recognizer))
     (all (λ n. is_unset (slot n e)) (settings Kind.Synthesizer)) h).0 in
-    (both (kept_for confidenceThreshold e.confidence) _ (both (kept_for noInputTimeout e.silence) _ own).1).0
+    (both (kept_for confidence_threshold e.confidence) _ (both (kept_for no_input_timeout e.silence) _ own).1).0
 
-kept_few : (x : Setting) → kept_for confidenceThreshold x ≡ true → level_set x ≤ 1000000
+kept_few : (x : Setting) → kept_for confidence_threshold x ≡ true → level_set x ≤ 1000000
 kept_few Setting.Unset h = lit≤ tt
 kept_few (Setting.Flag b) h = lit≤ tt
 kept_few (Setting.Millis n) h = lit≤ tt

@@ -29,9 +29,9 @@ begins (b ∷ t) (x ∷ l) = eqb x b && begins t l
 
 -- which state stands at `at` with CRLF behind it
 abbrev pub last_of : ℕ → Bool → Bool → Bool → Last
-last_of at pending inProgress complete = elim pending [
+last_of at pending in_progress complete = elim pending [
   | true ↦ Last.Got Pending (at + 9)
-  | false ↦ elim inProgress [
+  | false ↦ elim in_progress [
     | true ↦ Last.Got InProgress (at + 13)
     | false ↦ elim complete [ true ↦ Last.Got Complete (at + 10) | false ↦ Last.Wrong ]
   ]

@@ -28,7 +28,7 @@ use Rattle.answer.proofs.Answers.{field_fits}
 use Rattle.answer.proofs.Sizes.{fields_size}
 use Rattle.answer.proofs.Theorems.AnswersWritable.{Told}
 use Rattle.synth.specs.Levels.{level_in}
-use Rattle.synth.specs.Settings.{Name, killOnBargeIn, fetchTimeout, noInputTimeout, confidenceThreshold, sensitivityLevel, settings, field_of, spelling, slot, with_slot, unset, is_legal, setting_in, setting_text, setting_field, or_all, named, kept_for, is_unset, is_edition_of, newest, further, edition_at}
+use Rattle.synth.specs.Settings.{Name, kill_on_barge_in, fetch_timeout, no_input_timeout, confidence_threshold, sensitivity_level, settings, field_of, spelling, slot, with_slot, unset, is_legal, setting_in, setting_text, setting_field, or_all, named, kept_for, is_unset, is_edition_of, newest, further, edition_at}
 use Rattle.synth.specs.Channel.{are_editions}
 use Rattle.synth.specs.Request.{Request, acting}
 use Rattle.synth.specs.Judgement.{optional}
@@ -121,13 +121,13 @@ three_two a b c d e h =
     record { one = q.0; two = (both b true q.1).0; three = r.0; four = s.0; five = (both e true s.1).0 }
 
 synth_five : (e : Edition) → is_edition_of Kind.Synthesizer e ≡ true
-    → Five (kept_for killOnBargeIn e.kill) (kept_for fetchTimeout e.fetch) (is_unset e.silence)
+    → Five (kept_for kill_on_barge_in e.kill) (kept_for fetch_timeout e.fetch) (is_unset e.silence)
     (is_unset e.confidence) (is_unset e.sensitivity)
 synth_five e h = two_three _ _ _ _ _ h
 
 recog_five : (e : Edition) → is_edition_of Kind.Recognizer e ≡ true
-    → Five (is_unset e.kill) (is_unset e.fetch) (kept_for noInputTimeout e.silence)
-    (kept_for confidenceThreshold e.confidence) (kept_for sensitivityLevel e.sensitivity)
+    → Five (is_unset e.kill) (is_unset e.fetch) (kept_for no_input_timeout e.silence)
+    (kept_for confidence_threshold e.confidence) (kept_for sensitivity_level e.sensitivity)
 recog_five e h = three_two _ _ _ _ _ h
 
 unset_kept : (n : Name) (x : Setting) → is_unset x ≡ true → kept_for n x ≡ true
@@ -138,21 +138,21 @@ unset_kept n (Setting.Level l) h = absurd (false≢true h)
 
 -- each setting is one that reading can give, those of the other kind too
 pub own_kept : (k : Kind) (e : Edition) → is_edition_of k e ≡ true → (n : Name) → kept_for n (slot n e) ≡ true
-own_kept Kind.Synthesizer e h killOnBargeIn = (synth_five e h).one
-own_kept Kind.Synthesizer e h fetchTimeout = (synth_five e h).two
-own_kept Kind.Synthesizer e h noInputTimeout = unset_kept noInputTimeout e.silence (synth_five e h).three
-own_kept Kind.Synthesizer e h confidenceThreshold =
-    unset_kept confidenceThreshold e.confidence (synth_five e h).four
-own_kept Kind.Synthesizer e h sensitivityLevel = unset_kept sensitivityLevel e.sensitivity (synth_five e h).five
-own_kept Kind.Recognizer e h killOnBargeIn = unset_kept killOnBargeIn e.kill (recog_five e h).one
-own_kept Kind.Recognizer e h fetchTimeout = unset_kept fetchTimeout e.fetch (recog_five e h).two
-own_kept Kind.Recognizer e h noInputTimeout = (recog_five e h).three
-own_kept Kind.Recognizer e h confidenceThreshold = (recog_five e h).four
-own_kept Kind.Recognizer e h sensitivityLevel = (recog_five e h).five
+own_kept Kind.Synthesizer e h kill_on_barge_in = (synth_five e h).one
+own_kept Kind.Synthesizer e h fetch_timeout = (synth_five e h).two
+own_kept Kind.Synthesizer e h no_input_timeout = unset_kept no_input_timeout e.silence (synth_five e h).three
+own_kept Kind.Synthesizer e h confidence_threshold =
+    unset_kept confidence_threshold e.confidence (synth_five e h).four
+own_kept Kind.Synthesizer e h sensitivity_level = unset_kept sensitivity_level e.sensitivity (synth_five e h).five
+own_kept Kind.Recognizer e h kill_on_barge_in = unset_kept kill_on_barge_in e.kill (recog_five e h).one
+own_kept Kind.Recognizer e h fetch_timeout = unset_kept fetch_timeout e.fetch (recog_five e h).two
+own_kept Kind.Recognizer e h no_input_timeout = (recog_five e h).three
+own_kept Kind.Recognizer e h confidence_threshold = (recog_five e h).four
+own_kept Kind.Recognizer e h sensitivity_level = (recog_five e h).five
 
 -- ---- thresholds
 
-set_most : (x : Setting) → kept_for confidenceThreshold x ≡ true → level_set x ≤ 1000000
+set_most : (x : Setting) → kept_for confidence_threshold x ≡ true → level_set x ≤ 1000000
 set_most Setting.Unset h = lit≤ tt
 set_most (Setting.Flag b) h = lit≤ tt
 set_most (Setting.Millis n) h = lit≤ tt
@@ -165,7 +165,7 @@ read_most v (some l) e = (read_exact v l e).most
 -- the threshold that a request takes is one that reading can give
 pub threshold_most : (k : Kind) (e : Edition) → is_edition_of k e ≡ true → (given : Option (List ℕ))
     → threshold_in e.confidence given ≤ 1000000
-threshold_most k e h none = set_most e.confidence (own_kept k e h confidenceThreshold)
+threshold_most k e h none = set_most e.confidence (own_kept k e h confidence_threshold)
 threshold_most k e h (some v) = read_most v (level_in v) refl
 
 -- ---- what SET-PARAMS sets
@@ -176,20 +176,20 @@ Own k n = among (field_of n) (map field_of (settings k)) ≡ true
 
 set_own : (k : Kind) (n : Name) → Own k n → (x : Setting) → kept_for n x ≡ true → (e : Edition) → is_edition_of k e ≡ true
     → is_edition_of k (with_slot n x e) ≡ true
-set_own Kind.Synthesizer killOnBargeIn o x g e h =
+set_own Kind.Synthesizer kill_on_barge_in o x g e h =
     let f = synth_five e h in rw (g, f.two, f.three, f.four, f.five)
-set_own Kind.Synthesizer fetchTimeout o x g e h =
+set_own Kind.Synthesizer fetch_timeout o x g e h =
     let f = synth_five e h in rw (f.one, g, f.three, f.four, f.five)
-set_own Kind.Synthesizer noInputTimeout o x g e h = absurd (false≢true o)
-set_own Kind.Synthesizer confidenceThreshold o x g e h = absurd (false≢true o)
-set_own Kind.Synthesizer sensitivityLevel o x g e h = absurd (false≢true o)
-set_own Kind.Recognizer killOnBargeIn o x g e h = absurd (false≢true o)
-set_own Kind.Recognizer fetchTimeout o x g e h = absurd (false≢true o)
-set_own Kind.Recognizer noInputTimeout o x g e h =
+set_own Kind.Synthesizer no_input_timeout o x g e h = absurd (false≢true o)
+set_own Kind.Synthesizer confidence_threshold o x g e h = absurd (false≢true o)
+set_own Kind.Synthesizer sensitivity_level o x g e h = absurd (false≢true o)
+set_own Kind.Recognizer kill_on_barge_in o x g e h = absurd (false≢true o)
+set_own Kind.Recognizer fetch_timeout o x g e h = absurd (false≢true o)
+set_own Kind.Recognizer no_input_timeout o x g e h =
     let f = recog_five e h in rw (g, f.four, f.five, f.one, f.two)
-set_own Kind.Recognizer confidenceThreshold o x g e h =
+set_own Kind.Recognizer confidence_threshold o x g e h =
     let f = recog_five e h in rw (f.three, g, f.five, f.one, f.two)
-set_own Kind.Recognizer sensitivityLevel o x g e h =
+set_own Kind.Recognizer sensitivity_level o x g e h =
     let f = recog_five e h in rw (f.three, f.four, g, f.one, f.two)
 
 by_own : (k : Kind) (n : Name) → Own k n → (o : Option (List ℕ)) → optional (is_legal n) o ≡ true
@@ -206,16 +206,16 @@ pub changed_own : (k : Kind) (r : Request) → AllLegal r → (e : Edition) → 
     → is_edition_of k (changed (settings k) r e) ≡ true
 changed_own Kind.Synthesizer r l e h =
     let k = Kind.Synthesizer in
-    let a : Edition = set_by killOnBargeIn (acting (field_of killOnBargeIn) r) e in
-    by_own k fetchTimeout refl (acting (field_of fetchTimeout) r) (l fetchTimeout) a
-    (by_own k killOnBargeIn refl (acting (field_of killOnBargeIn) r) (l killOnBargeIn) e h)
+    let a : Edition = set_by kill_on_barge_in (acting (field_of kill_on_barge_in) r) e in
+    by_own k fetch_timeout refl (acting (field_of fetch_timeout) r) (l fetch_timeout) a
+    (by_own k kill_on_barge_in refl (acting (field_of kill_on_barge_in) r) (l kill_on_barge_in) e h)
 changed_own Kind.Recognizer r l e h =
     let k = Kind.Recognizer in
-    let a : Edition = set_by noInputTimeout (acting (field_of noInputTimeout) r) e in
-    let b : Edition = set_by confidenceThreshold (acting (field_of confidenceThreshold) r) a in
-    by_own k sensitivityLevel refl (acting (field_of sensitivityLevel) r) (l sensitivityLevel) b
-    (by_own k confidenceThreshold refl (acting (field_of confidenceThreshold) r) (l confidenceThreshold) a
-    (by_own k noInputTimeout refl (acting (field_of noInputTimeout) r) (l noInputTimeout) e h))
+    let a : Edition = set_by no_input_timeout (acting (field_of no_input_timeout) r) e in
+    let b : Edition = set_by confidence_threshold (acting (field_of confidence_threshold) r) a in
+    by_own k sensitivity_level refl (acting (field_of sensitivity_level) r) (l sensitivity_level) b
+    (by_own k confidence_threshold refl (acting (field_of confidence_threshold) r) (l confidence_threshold) a
+    (by_own k no_input_timeout refl (acting (field_of no_input_timeout) r) (l no_input_timeout) e h))
 
 -- ---- the fields that tell settings
 
@@ -242,11 +242,11 @@ pub record Spelled (n : List ℕ) : Type 0 where
   pub names : all is_name n ≡ true
 
 pub spelled : (n : Name) → Spelled (spelling n)
-spelled killOnBargeIn = record { some = lit≤ tt; most = lit≤ tt; names = refl }
-spelled fetchTimeout = record { some = lit≤ tt; most = lit≤ tt; names = refl }
-spelled noInputTimeout = record { some = lit≤ tt; most = lit≤ tt; names = refl }
-spelled confidenceThreshold = record { some = lit≤ tt; most = lit≤ tt; names = refl }
-spelled sensitivityLevel = record { some = lit≤ tt; most = lit≤ tt; names = refl }
+spelled kill_on_barge_in = record { some = lit≤ tt; most = lit≤ tt; names = refl }
+spelled fetch_timeout = record { some = lit≤ tt; most = lit≤ tt; names = refl }
+spelled no_input_timeout = record { some = lit≤ tt; most = lit≤ tt; names = refl }
+spelled confidence_threshold = record { some = lit≤ tt; most = lit≤ tt; names = refl }
+spelled sensitivity_level = record { some = lit≤ tt; most = lit≤ tt; names = refl }
 
 module _ (kind : Kind) (e : Edition) (own : is_edition_of kind e ≡ true) where
   setting_fits : (n : Name) → FieldFits (setting_field e n)
@@ -287,35 +287,35 @@ module _ (kind : Kind) (e : Edition) (own : is_edition_of kind e ≡ true) where
 
   -- each choice of them, computed; none named asks for all
   synth_told : (name : List ℕ) (a b : Bool)
-      → Told name (told (or_all (put a killOnBargeIn (put b fetchTimeout [])) (settings Kind.Synthesizer)))
+      → Told name (told (or_all (put a kill_on_barge_in (put b fetch_timeout [])) (settings Kind.Synthesizer)))
   unfolding known_of value_of
-  synth_told name true true = some_told name (killOnBargeIn ∷ fetchTimeout ∷ []) (lit≤ tt) (lit≤ tt) refl refl
-  synth_told name true false = some_told name (killOnBargeIn ∷ []) (lit≤ tt) (lit≤ tt) refl refl
-  synth_told name false true = some_told name (fetchTimeout ∷ []) (lit≤ tt) (lit≤ tt) refl refl
-  synth_told name false false = some_told name (killOnBargeIn ∷ fetchTimeout ∷ []) (lit≤ tt) (lit≤ tt) refl refl
+  synth_told name true true = some_told name (kill_on_barge_in ∷ fetch_timeout ∷ []) (lit≤ tt) (lit≤ tt) refl refl
+  synth_told name true false = some_told name (kill_on_barge_in ∷ []) (lit≤ tt) (lit≤ tt) refl refl
+  synth_told name false true = some_told name (fetch_timeout ∷ []) (lit≤ tt) (lit≤ tt) refl refl
+  synth_told name false false = some_told name (kill_on_barge_in ∷ fetch_timeout ∷ []) (lit≤ tt) (lit≤ tt) refl refl
 
   recog_told : (name : List ℕ) (a b c : Bool) → Told name (told
-      (or_all (put a noInputTimeout (put b confidenceThreshold (put c sensitivityLevel []))) (settings Kind.Recognizer)))
+      (or_all (put a no_input_timeout (put b confidence_threshold (put c sensitivity_level []))) (settings Kind.Recognizer)))
   unfolding known_of value_of
   recog_told name true true true =
-      some_told name (noInputTimeout ∷ confidenceThreshold ∷ sensitivityLevel ∷ []) (lit≤ tt) (lit≤ tt) refl refl
+      some_told name (no_input_timeout ∷ confidence_threshold ∷ sensitivity_level ∷ []) (lit≤ tt) (lit≤ tt) refl refl
   recog_told name true true false =
-      some_told name (noInputTimeout ∷ confidenceThreshold ∷ []) (lit≤ tt) (lit≤ tt) refl refl
+      some_told name (no_input_timeout ∷ confidence_threshold ∷ []) (lit≤ tt) (lit≤ tt) refl refl
   recog_told name true false true =
-      some_told name (noInputTimeout ∷ sensitivityLevel ∷ []) (lit≤ tt) (lit≤ tt) refl refl
-  recog_told name true false false = some_told name (noInputTimeout ∷ []) (lit≤ tt) (lit≤ tt) refl refl
+      some_told name (no_input_timeout ∷ sensitivity_level ∷ []) (lit≤ tt) (lit≤ tt) refl refl
+  recog_told name true false false = some_told name (no_input_timeout ∷ []) (lit≤ tt) (lit≤ tt) refl refl
   recog_told name false true true =
-      some_told name (confidenceThreshold ∷ sensitivityLevel ∷ []) (lit≤ tt) (lit≤ tt) refl refl
-  recog_told name false true false = some_told name (confidenceThreshold ∷ []) (lit≤ tt) (lit≤ tt) refl refl
-  recog_told name false false true = some_told name (sensitivityLevel ∷ []) (lit≤ tt) (lit≤ tt) refl refl
+      some_told name (confidence_threshold ∷ sensitivity_level ∷ []) (lit≤ tt) (lit≤ tt) refl refl
+  recog_told name false true false = some_told name (confidence_threshold ∷ []) (lit≤ tt) (lit≤ tt) refl refl
+  recog_told name false false true = some_told name (sensitivity_level ∷ []) (lit≤ tt) (lit≤ tt) refl refl
   recog_told name false false false =
-      some_told name (noInputTimeout ∷ confidenceThreshold ∷ sensitivityLevel ∷ []) (lit≤ tt) (lit≤ tt) refl refl
+      some_told name (no_input_timeout ∷ confidence_threshold ∷ sensitivity_level ∷ []) (lit≤ tt) (lit≤ tt) refl refl
 
 -- whatever is asked for, the fields that answer it are fit to be written
 pub settings_told_lem : (kind : Kind) (e : Edition) → is_edition_of kind e ≡ true → (name : List ℕ) (given : List Known)
     → Told name (map (setting_field e) (named given (settings kind)))
 settings_told_lem Kind.Synthesizer e own name given =
-    synth_told Kind.Synthesizer e own name (among (field_of killOnBargeIn) given) (among (field_of fetchTimeout) given)
+    synth_told Kind.Synthesizer e own name (among (field_of kill_on_barge_in) given) (among (field_of fetch_timeout) given)
 settings_told_lem Kind.Recognizer e own name given =
-    recog_told Kind.Recognizer e own name (among (field_of noInputTimeout) given)
-    (among (field_of confidenceThreshold) given) (among (field_of sensitivityLevel) given)
+    recog_told Kind.Recognizer e own name (among (field_of no_input_timeout) given)
+    (among (field_of confidence_threshold) given) (among (field_of sensitivity_level) given)

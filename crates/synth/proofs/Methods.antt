@@ -17,7 +17,7 @@ use Rattle.answer.specs.declared.Kind.{Kind}
 use Rattle.synth.specs.Kinds.{most, is_state_of, method_number, methods, method_in}
 use Rattle.synth.specs.Channel.{View, kind, with_last, ids, held, is, is_busy, first_above, are_levels}
 use Rattle.synth.specs.Levels.{is_level}
-use Rattle.synth.specs.Settings.{killOnBargeIn, fetchTimeout, noInputTimeout, confidenceThreshold, sensitivityLevel, settings, is_flag, is_millis, newest}
+use Rattle.synth.specs.Settings.{kill_on_barge_in, fetch_timeout, no_input_timeout, confidence_threshold, sensitivity_level, settings, is_flag, is_millis, newest}
 use Rattle.synth.specs.Request.{Request, opens, acting}
 use Rattle.synth.specs.Demand3.{is_ending}
 use Rattle.synth.specs.Judgement.{Verdict, passes, fails, optional, legal, is_of_kind, of_kind, is_valid, above, valid, capacity, early, late}
@@ -134,11 +134,11 @@ module _ (r : Request) (e : legal r ≡ passes) where
   three = both (flags && lists) confidences four.0
 
   pub legal_each : AllLegal r
-  legal_each killOnBargeIn = (both flags lists three.0).0
-  legal_each fetchTimeout = four.1
-  legal_each noInputTimeout = five.1
-  legal_each confidenceThreshold = three.1
-  legal_each sensitivityLevel = six.1
+  legal_each kill_on_barge_in = (both flags lists three.0).0
+  legal_each fetch_timeout = four.1
+  legal_each no_input_timeout = five.1
+  legal_each confidence_threshold = three.1
+  legal_each sensitivity_level = six.1
 
 module _ (v : View) (f : Facts v) (r : Request) (small : r.id < 4294967296) (above : first_above v.last ≤ r.id) where
   enter_good : (m : Method) → opens m ≡ true → is_ending m ≡ false → (s : State) → is_busy s ≡ true → is_state_of (kind v) s ≡ true

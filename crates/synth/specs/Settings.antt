@@ -20,7 +20,7 @@ use Rattle.synth.specs.declared.Edition.{Edition}
 -- ---- the table of settings
 
 pub data Name : Type 0 where
-  killOnBargeIn fetchTimeout noInputTimeout confidenceThreshold sensitivityLevel : Name
+  kill_on_barge_in fetch_timeout no_input_timeout confidence_threshold sensitivity_level : Name
 
 -- a value is a yes or no, a whole number of milliseconds, or a level
 pub data Sort : Type 0 where
@@ -28,38 +28,38 @@ pub data Sort : Type 0 where
 
 -- the settings of a kind of channel, in the order in which they are answered
 abbrev pub settings : Kind → List Name
-settings Kind.Synthesizer = killOnBargeIn ∷ fetchTimeout ∷ []
-settings Kind.Recognizer = noInputTimeout ∷ confidenceThreshold ∷ sensitivityLevel ∷ []
+settings Kind.Synthesizer = kill_on_barge_in ∷ fetch_timeout ∷ []
+settings Kind.Recognizer = no_input_timeout ∷ confidence_threshold ∷ sensitivity_level ∷ []
 
 abbrev pub sort_of : Name → Sort
-sort_of killOnBargeIn = flag
-sort_of fetchTimeout = millis
-sort_of noInputTimeout = millis
-sort_of confidenceThreshold = level
-sort_of sensitivityLevel = level
+sort_of kill_on_barge_in = flag
+sort_of fetch_timeout = millis
+sort_of no_input_timeout = millis
+sort_of confidence_threshold = level
+sort_of sensitivity_level = level
 
 -- the field that names it
 abbrev pub field_of : Name → Known
-field_of killOnBargeIn = KillOnBargeIn
-field_of fetchTimeout = FetchTimeout
-field_of noInputTimeout = NoInputTimeout
-field_of confidenceThreshold = ConfidenceThreshold
-field_of sensitivityLevel = SensitivityLevel
+field_of kill_on_barge_in = KillOnBargeIn
+field_of fetch_timeout = FetchTimeout
+field_of no_input_timeout = NoInputTimeout
+field_of confidence_threshold = ConfidenceThreshold
+field_of sensitivity_level = SensitivityLevel
 
 abbrev pub spelling : Name → List ℕ
-spelling killOnBargeIn = bytes "Kill-On-Barge-In"
-spelling fetchTimeout = bytes "Fetch-Timeout"
-spelling noInputTimeout = bytes "No-Input-Timeout"
-spelling confidenceThreshold = bytes "Confidence-Threshold"
-spelling sensitivityLevel = bytes "Sensitivity-Level"
+spelling kill_on_barge_in = bytes "Kill-On-Barge-In"
+spelling fetch_timeout = bytes "Fetch-Timeout"
+spelling no_input_timeout = bytes "No-Input-Timeout"
+spelling confidence_threshold = bytes "Confidence-Threshold"
+spelling sensitivity_level = bytes "Sensitivity-Level"
 
 -- its place in an edition
 abbrev pub slot : Name → Edition → Setting
-slot killOnBargeIn e = e.kill
-slot fetchTimeout e = e.fetch
-slot noInputTimeout e = e.silence
-slot confidenceThreshold e = e.confidence
-slot sensitivityLevel e = e.sensitivity
+slot kill_on_barge_in e = e.kill
+slot fetch_timeout e = e.fetch
+slot no_input_timeout e = e.silence
+slot confidence_threshold e = e.confidence
+slot sensitivity_level e = e.sensitivity
 
 -- an edition of these settings, in the order of their names
 abbrev pub edition : Setting → Setting → Setting → Setting → Setting → Edition
@@ -68,11 +68,11 @@ edition kill fetch silence confidence sensitivity =
 
 -- another setting in that place, all else as before
 abbrev pub with_slot : Name → Setting → Edition → Edition
-with_slot killOnBargeIn x e = edition x e.fetch e.silence e.confidence e.sensitivity
-with_slot fetchTimeout x e = edition e.kill x e.silence e.confidence e.sensitivity
-with_slot noInputTimeout x e = edition e.kill e.fetch x e.confidence e.sensitivity
-with_slot confidenceThreshold x e = edition e.kill e.fetch e.silence x e.sensitivity
-with_slot sensitivityLevel x e = edition e.kill e.fetch e.silence e.confidence x
+with_slot kill_on_barge_in x e = edition x e.fetch e.silence e.confidence e.sensitivity
+with_slot fetch_timeout x e = edition e.kill x e.silence e.confidence e.sensitivity
+with_slot no_input_timeout x e = edition e.kill e.fetch x e.confidence e.sensitivity
+with_slot confidence_threshold x e = edition e.kill e.fetch e.silence x e.sensitivity
+with_slot sensitivity_level x e = edition e.kill e.fetch e.silence e.confidence x
 
 -- a fresh channel's edition
 abbrev pub unset : Edition

@@ -12,8 +12,8 @@ use Rattle.message.specs.Message.{Field}
 use Rattle.message.specs.Known.{index_of}
 use Rattle.answer.specs.Written.{field_text, fields_text}
 use Rattle.answer.specs.declared.Kind.{Kind}
-use Rattle.synth.specs.Settings.{Name, killOnBargeIn, fetchTimeout, noInputTimeout, confidenceThreshold}
-use Rattle.synth.specs.Settings.{sensitivityLevel, field_of, setting_field}
+use Rattle.synth.specs.Settings.{Name, kill_on_barge_in, fetch_timeout, no_input_timeout, confidence_threshold}
+use Rattle.synth.specs.Settings.{sensitivity_level, field_of, setting_field}
 use Rattle.synth.specs.declared.Edition.{Edition}
 use Rattle.told.specs.Told.{told}
 
@@ -69,12 +69,12 @@ module _ (e : Edition) (asked : ℕ) where
   each_told [] = refl
   each_told (n ∷ ns) = rw (same_test n, each_told ns) (before (setting_field e) (wanted n) n (keep wanted ns))
 
-  pub of_synthesizer : field killOnBargeIn ++ field fetchTimeout
+  pub of_synthesizer : field kill_on_barge_in ++ field fetch_timeout
       ≡ fields_text (map (setting_field e) (told Kind.Synthesizer asked))
-  of_synthesizer = two (field killOnBargeIn) (field fetchTimeout) ∙ each_told (killOnBargeIn ∷ fetchTimeout ∷ [])
+  of_synthesizer = two (field kill_on_barge_in) (field fetch_timeout) ∙ each_told (kill_on_barge_in ∷ fetch_timeout ∷ [])
 
-  pub of_recognizer : field noInputTimeout ++ field confidenceThreshold ++ field sensitivityLevel
+  pub of_recognizer : field no_input_timeout ++ field confidence_threshold ++ field sensitivity_level
       ≡ fields_text (map (setting_field e) (told Kind.Recognizer asked))
   of_recognizer =
-      three (field noInputTimeout) (field confidenceThreshold) (field sensitivityLevel)
-      ∙ each_told (noInputTimeout ∷ confidenceThreshold ∷ sensitivityLevel ∷ [])
+      three (field no_input_timeout) (field confidence_threshold) (field sensitivity_level)
+      ∙ each_told (no_input_timeout ∷ confidence_threshold ∷ sensitivity_level ∷ [])

@@ -100,8 +100,7 @@ pub fn whose_request(s: &[u8]) -> Whose
     }
 }
 
-// The C face of it; include/klarvesimo.h is its manual. It stands here, and not in `firmware`: a library of its own has
-// its own copy of the start line's reader, put into its one caller, as that of `firmware` has.
+// The same as C calls it, by `whose_c`; include/klarvesimo.h is its manual.
 pub fn klarvesimo_whose(s: &[u8], id: &mut [u64; 1]) -> u32
     ensures { record { number = result; id = id.new } ≡ whose_face s.now id.old }
 {

@@ -16,7 +16,7 @@ use Rattle.lists.specs.Lists.{all, All}
 use Rattle.lists.proofs.Tests.{both}
 use Rattle.answer.specs.declared.Kind.{Kind}
 use Rattle.synth.specs.Kinds.{kind_of, most, state_number}
-use Rattle.synth.specs.Settings.{Name, killOnBargeIn, fetchTimeout, noInputTimeout, confidenceThreshold, sensitivityLevel, settings, slot, edition, with_slot, unset, is_unset, other_kind, is_edition_of}
+use Rattle.synth.specs.Settings.{Name, kill_on_barge_in, fetch_timeout, no_input_timeout, confidence_threshold, sensitivity_level, settings, slot, edition, with_slot, unset, is_unset, other_kind, is_edition_of}
 use Rattle.synth.specs.Channel.{View, first_above, are_editions, sound}
 use Rattle.synth.specs.declared.State.{State}
 use Rattle.synth.specs.declared.State.TheVariants.{Idle, Speaking, Paused, Recognizing, Recognized}
@@ -64,18 +64,18 @@ pub level_told : (l : Level) → Exact l → Told (Setting.Level l)
 level_told l e = λ i. some (Setting.Level (record { millionths = l.millionths; single = sym e.number i }))
 
 slot_told : (n : Name) (e : Edition) → AllTold e → Told (slot n e)
-slot_told killOnBargeIn e t = t.0
-slot_told fetchTimeout e t = t.1
-slot_told noInputTimeout e t = t.2
-slot_told confidenceThreshold e t = t.3
-slot_told sensitivityLevel e t = t.4
+slot_told kill_on_barge_in e t = t.0
+slot_told fetch_timeout e t = t.1
+slot_told no_input_timeout e t = t.2
+slot_told confidence_threshold e t = t.3
+slot_told sensitivity_level e t = t.4
 
 pub set_told : (n : Name) (x : Setting) → Told x → (e : Edition) → AllTold e → AllTold (with_slot n x e)
-set_told killOnBargeIn x h e t = (h, t.1, t.2, t.3, t.4)
-set_told fetchTimeout x h e t = (t.0, h, t.2, t.3, t.4)
-set_told noInputTimeout x h e t = (t.0, t.1, h, t.3, t.4)
-set_told confidenceThreshold x h e t = (t.0, t.1, t.2, h, t.4)
-set_told sensitivityLevel x h e t = (t.0, t.1, t.2, t.3, h)
+set_told kill_on_barge_in x h e t = (h, t.1, t.2, t.3, t.4)
+set_told fetch_timeout x h e t = (t.0, h, t.2, t.3, t.4)
+set_told no_input_timeout x h e t = (t.0, t.1, h, t.3, t.4)
+set_told confidence_threshold x h e t = (t.0, t.1, t.2, h, t.4)
+set_told sensitivity_level x h e t = (t.0, t.1, t.2, t.3, h)
 
 state_back : (s : State) → state_at (state_number s) ≡ some s
 state_back Idle = refl
@@ -370,7 +370,7 @@ OthersAt kind (some e) = all (λ n. is_unset (slot n e)) (settings (other_kind k
 others_unset : (kind : Kind) (at : ℕ) (ws : List ℕ) → OthersAt kind (edition_from (settings kind) at ws)
 others_unset Kind.Synthesizer at ws = two (setting_at (get_or ws at 0) _) (setting_at (get_or ws (at + 2) 0) _)
   where
-    two : (a b : Option Setting) → OthersAt Kind.Synthesizer (with_setting killOnBargeIn a (with_setting fetchTimeout b (some unset)))
+    two : (a b : Option Setting) → OthersAt Kind.Synthesizer (with_setting kill_on_barge_in a (with_setting fetch_timeout b (some unset)))
     two none b = tt
     two (some x) none = tt
     two (some x) (some y) = refl
@@ -378,7 +378,7 @@ others_unset Kind.Recognizer at ws =
     three (setting_at (get_or ws at 0) _) (setting_at (get_or ws (at + 2) 0) _) (setting_at (get_or ws (at + 2 + 2) 0) _)
   where
     three : (a b c : Option Setting) → OthersAt Kind.Recognizer
-        (with_setting noInputTimeout a (with_setting confidenceThreshold b (with_setting sensitivityLevel c (some unset))))
+        (with_setting no_input_timeout a (with_setting confidence_threshold b (with_setting sensitivity_level c (some unset))))
     three none b c = tt
     three (some x) none c = tt
     three (some x) (some y) none = tt

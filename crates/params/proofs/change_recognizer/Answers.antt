@@ -1,7 +1,7 @@
 -- `params::change_recognizer` takes the three settings of a recognizer. Assumes nothing.
 use mathlib.Core.Path.{◌≡◌, sym, ap, ◌∙◌}
 use Rattle.answer.specs.declared.Kind.{Kind}
-use Rattle.synth.specs.Settings.{noInputTimeout, confidenceThreshold, sensitivityLevel}
+use Rattle.synth.specs.Settings.{no_input_timeout, confidence_threshold, sensitivity_level}
 use Rattle.values.specs.Values.{given_of}
 use Rattle.params.specs.Steps.{ChangesTo}
 use Rattle.params.specs.declared.Changed.{Changed}
@@ -26,13 +26,13 @@ changes c x e =
     let first = second.before.before in
     let silence =
     first.take-silence_taken.ensures
-    ∙ ap (λ g. taken_for noInputTimeout (given_of a.f.now g) a.set) first.value-silence_given.ensures in
+    ∙ ap (λ g. taken_for no_input_timeout (given_of a.f.now g) a.set) first.value-silence_given.ensures in
     let confidence =
     second.take-confidence_taken.ensures
-    ∙ ap (λ g. taken_for confidenceThreshold (given_of a.f.now g) a.set) second.value-confidence_given.ensures in
+    ∙ ap (λ g. taken_for confidence_threshold (given_of a.f.now g) a.set) second.value-confidence_given.ensures in
     let sensitivity =
     c.take-sensitivity_taken.ensures
-    ∙ ap (λ g. taken_for sensitivityLevel (given_of a.f.now g) a.set) c.value-sensitivity_given.ensures in
+    ∙ ap (λ g. taken_for sensitivity_level (given_of a.f.now g) a.set) c.value-sensitivity_given.ensures in
     sym e ∙ (λ z. by c (silence z) (confidence z) (sensitivity z))
     ∙ recognizer_changes a.f.now a.h fs told major minor id stand a.set
 

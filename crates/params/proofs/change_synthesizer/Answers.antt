@@ -1,7 +1,7 @@
 -- `params::change_synthesizer` takes the two settings of a synthesizer. Assumes nothing.
 use mathlib.Core.Path.{◌≡◌, sym, ap, ap₂, ◌∙◌}
 use Rattle.answer.specs.declared.Kind.{Kind}
-use Rattle.synth.specs.Settings.{killOnBargeIn, fetchTimeout}
+use Rattle.synth.specs.Settings.{kill_on_barge_in, fetch_timeout}
 use Rattle.values.specs.Values.{given_of}
 use Rattle.params.specs.Steps.{ChangesTo}
 use Rattle.params.specs.declared.Changed.{Changed}
@@ -24,8 +24,8 @@ changes c x e =
     sym e
     ∙ ap₂ (by c)
     (kill.take-kill_taken.ensures
-    ∙ ap (λ g. taken_for killOnBargeIn (given_of a.f.now g) a.set) kill.value-kill_given.ensures)
-    (c.take-fetch_taken.ensures ∙ ap (λ g. taken_for fetchTimeout (given_of a.f.now g) a.set) c.value-fetch_given.ensures)
+    ∙ ap (λ g. taken_for kill_on_barge_in (given_of a.f.now g) a.set) kill.value-kill_given.ensures)
+    (c.take-fetch_taken.ensures ∙ ap (λ g. taken_for fetch_timeout (given_of a.f.now g) a.set) c.value-fetch_given.ensures)
     ∙ synthesizer_changes a.f.now a.h fs told major minor id stand a.set
 
 pub returns-in-Illegal : goal.returns-in-Illegal

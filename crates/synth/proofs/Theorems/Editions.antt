@@ -6,7 +6,7 @@ use mathlib.Core.Option.{none, some}
 use mathlib.Core.List.{List, [], ◌∷◌, map}
 use native.Mathlib.Omega.{arith}
 use lib.ListN.{length, take, get_or, length-take}
-use Rattle.synth.specs.Settings.{Name, killOnBargeIn, fetchTimeout, noInputTimeout, confidenceThreshold, sensitivityLevel, slot, edition, with_slot, unset, further, edition_at}
+use Rattle.synth.specs.Settings.{Name, kill_on_barge_in, fetch_timeout, no_input_timeout, confidence_threshold, sensitivity_level, slot, edition, with_slot, unset, further, edition_at}
 use Rattle.synth.specs.declared.Setting.{Setting}
 use Rattle.synth.specs.declared.Edition.{Edition}
 use Rattle.synth.proofs.Theorems.SettingsTable.{every}
@@ -22,11 +22,11 @@ module _ (x a b c d e : Setting) where
   before = edition a b c d e
 
   pub own_place :
-      setting killOnBargeIn x before
-      ∷ setting fetchTimeout x before
-      ∷ setting noInputTimeout x before
-      ∷ setting confidenceThreshold x before
-      ∷ setting sensitivityLevel x before
+      setting kill_on_barge_in x before
+      ∷ setting fetch_timeout x before
+      ∷ setting no_input_timeout x before
+      ∷ setting confidence_threshold x before
+      ∷ setting sensitivity_level x before
       ∷ []
       ≡ (x ∷ b ∷ c ∷ d ∷ e ∷ [])
       ∷ (a ∷ x ∷ c ∷ d ∷ e ∷ [])

@@ -21,7 +21,7 @@ use Rattle.answer.specs.Answers.{telling}
 use Rattle.answer.specs.declared.Kind.{Kind}
 use Rattle.answer.proofs.Sizes.{fields_size, telling_size}
 use Rattle.synth.specs.Settings as S
-use Rattle.synth.specs.Settings.{Name, killOnBargeIn, fetchTimeout, noInputTimeout, confidenceThreshold, sensitivityLevel, Sort, flag, millis, settings, sort_of, field_of, spelling, slot, edition, setting_text, setting_field, or_all, named, kept_as, is_edition_of, newest}
+use Rattle.synth.specs.Settings.{Name, kill_on_barge_in, fetch_timeout, no_input_timeout, confidence_threshold, sensitivity_level, Sort, flag, millis, settings, sort_of, field_of, spelling, slot, edition, setting_text, setting_field, or_all, named, kept_as, is_edition_of, newest}
 use Rattle.synth.specs.Channel.{View, kind, sound}
 use Rattle.synth.specs.Request.{Request}
 use Rattle.synth.specs.States.{told_by}
@@ -75,14 +75,14 @@ module _ (kind : Kind) (e : Edition) (own : is_edition_of kind e ≡ true) where
       )
 
 synth_most : (a b : Bool)
-    → together (or_all (put a killOnBargeIn (put b fetchTimeout [])) (settings Kind.Synthesizer)) ≤ 97
+    → together (or_all (put a kill_on_barge_in (put b fetch_timeout [])) (settings Kind.Synthesizer)) ≤ 97
 synth_most true true = lit≤ tt
 synth_most true false = lit≤ tt
 synth_most false true = lit≤ tt
 synth_most false false = lit≤ tt
 
 recog_most : (a b c : Bool)
-    → together (or_all (put a noInputTimeout (put b confidenceThreshold (put c sensitivityLevel [])))
+    → together (or_all (put a no_input_timeout (put b confidence_threshold (put c sensitivity_level [])))
     (settings Kind.Recognizer)) ≤ 97
 recog_most true true true = lit≤ tt
 recog_most true true false = lit≤ tt
@@ -95,10 +95,10 @@ recog_most false false false = lit≤ tt
 
 named_most : (k : Kind) (given : List Known) → together (named given (settings k)) ≤ 97
 named_most Kind.Synthesizer given =
-    synth_most (among (field_of killOnBargeIn) given) (among (field_of fetchTimeout) given)
+    synth_most (among (field_of kill_on_barge_in) given) (among (field_of fetch_timeout) given)
 named_most Kind.Recognizer given =
-    recog_most (among (field_of noInputTimeout) given) (among (field_of confidenceThreshold) given)
-    (among (field_of sensitivityLevel) given)
+    recog_most (among (field_of no_input_timeout) given) (among (field_of confidence_threshold) given)
+    (among (field_of sensitivity_level) given)
 
 pub longest_told : (v : View) → sound v ≡ true → (r : Request) → r.id < 4294967296
     → length (written (telling v.name r.id 200 (told_by v r))) ≤ 202

@@ -17,7 +17,7 @@ use Rattle.message.specs.declared.Known.TheVariants.{ChannelIdentifier, ContentL
 use Rattle.message.specs.declared.RequestState.TheVariants.{Complete}
 use Rattle.answer.specs.Answers.{response, telling}
 use Rattle.answer.specs.declared.Kind.{Kind}
-use Rattle.synth.specs.Settings.{Name, killOnBargeIn, fetchTimeout, noInputTimeout, confidenceThreshold, sensitivityLevel, settings, field_of, may_stand, slot, setting_in, other_kind, newest, further}
+use Rattle.synth.specs.Settings.{Name, kill_on_barge_in, fetch_timeout, no_input_timeout, confidence_threshold, sensitivity_level, settings, field_of, may_stand, slot, setting_in, other_kind, newest, further}
 use Rattle.synth.specs.Channel.{View, kind, with_last, with_edition}
 use Rattle.synth.specs.Request.{Request, is_params, ignored, acting, ignores_any}
 use Rattle.synth.specs.Judgement.{Verdict, passes, fails, unless, permitted, legal, success, early, late}
@@ -50,24 +50,24 @@ OthersKept kind before now = All (λ (n : Name). slot n now ≡ slot n before) (
 pub every_setting_acts : (r : Request) → r.method ≡ Method.SetParams → (n : Name)
     → acting (field_of n) r ≡ judged_value (field_of n) (fields_in r.fields)
 unfolding acting
-every_setting_acts r set killOnBargeIn = rw (set, acting)
-every_setting_acts r set fetchTimeout = rw (set, acting)
-every_setting_acts r set noInputTimeout = rw (set, acting)
-every_setting_acts r set confidenceThreshold = rw (set, acting)
-every_setting_acts r set sensitivityLevel = rw (set, acting)
+every_setting_acts r set kill_on_barge_in = rw (set, acting)
+every_setting_acts r set fetch_timeout = rw (set, acting)
+every_setting_acts r set no_input_timeout = rw (set, acting)
+every_setting_acts r set confidence_threshold = rw (set, acting)
+every_setting_acts r set sensitivity_level = rw (set, acting)
 
 abbrev set2 : Option (List ℕ) → Option (List ℕ) → Edition → Edition
-set2 a b e = set_by fetchTimeout b (set_by killOnBargeIn a e)
+set2 a b e = set_by fetch_timeout b (set_by kill_on_barge_in a e)
 
 abbrev set3 : Option (List ℕ) → Option (List ℕ) → Option (List ℕ) → Edition → Edition
-set3 a b c e = set_by sensitivityLevel c (set_by confidenceThreshold b (set_by noInputTimeout a e))
+set3 a b c e = set_by sensitivity_level c (set_by confidence_threshold b (set_by no_input_timeout a e))
 
 record Synth (a b : Option (List ℕ)) (e : Edition) : Type 0 where
-  one : slot killOnBargeIn (set2 a b e) ≡ taken killOnBargeIn a (slot killOnBargeIn e)
-  two : slot fetchTimeout (set2 a b e) ≡ taken fetchTimeout b (slot fetchTimeout e)
-  three : slot noInputTimeout (set2 a b e) ≡ slot noInputTimeout e
-  four : slot confidenceThreshold (set2 a b e) ≡ slot confidenceThreshold e
-  five : slot sensitivityLevel (set2 a b e) ≡ slot sensitivityLevel e
+  one : slot kill_on_barge_in (set2 a b e) ≡ taken kill_on_barge_in a (slot kill_on_barge_in e)
+  two : slot fetch_timeout (set2 a b e) ≡ taken fetch_timeout b (slot fetch_timeout e)
+  three : slot no_input_timeout (set2 a b e) ≡ slot no_input_timeout e
+  four : slot confidence_threshold (set2 a b e) ≡ slot confidence_threshold e
+  five : slot sensitivity_level (set2 a b e) ≡ slot sensitivity_level e
 
 synth_each : (a b : Option (List ℕ)) (e : Edition) → Synth a b e
 synth_each none none e = record { one = refl; two = refl; three = refl; four = refl; five = refl }
@@ -76,11 +76,11 @@ synth_each (some x) none e = record { one = refl; two = refl; three = refl; four
 synth_each (some x) (some y) e = record { one = refl; two = refl; three = refl; four = refl; five = refl }
 
 record Recog (a b c : Option (List ℕ)) (e : Edition) : Type 0 where
-  one : slot killOnBargeIn (set3 a b c e) ≡ slot killOnBargeIn e
-  two : slot fetchTimeout (set3 a b c e) ≡ slot fetchTimeout e
-  three : slot noInputTimeout (set3 a b c e) ≡ taken noInputTimeout a (slot noInputTimeout e)
-  four : slot confidenceThreshold (set3 a b c e) ≡ taken confidenceThreshold b (slot confidenceThreshold e)
-  five : slot sensitivityLevel (set3 a b c e) ≡ taken sensitivityLevel c (slot sensitivityLevel e)
+  one : slot kill_on_barge_in (set3 a b c e) ≡ slot kill_on_barge_in e
+  two : slot fetch_timeout (set3 a b c e) ≡ slot fetch_timeout e
+  three : slot no_input_timeout (set3 a b c e) ≡ taken no_input_timeout a (slot no_input_timeout e)
+  four : slot confidence_threshold (set3 a b c e) ≡ taken confidence_threshold b (slot confidence_threshold e)
+  five : slot sensitivity_level (set3 a b c e) ≡ taken sensitivity_level c (slot sensitivity_level e)
 
 recog_each : (a b c : Option (List ℕ)) (e : Edition) → Recog a b c e
 recog_each none none none e = record { one = refl; two = refl; three = refl; four = refl; five = refl }

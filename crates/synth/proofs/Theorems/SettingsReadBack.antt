@@ -21,7 +21,7 @@ use Rattle.answer.specs.declared.Kind.{Kind}
 use Rattle.answer.proofs.Theorems.ReadBack.{read_back}
 use Rattle.answer.proofs.Theorems.AnswersWritable.{NameFits, Told, telling_writable}
 use Rattle.answer.proofs.Theorems.LongestAnswer.{longest_telling}
-use Rattle.synth.specs.Settings.{Name, killOnBargeIn, fetchTimeout, noInputTimeout, confidenceThreshold, sensitivityLevel, settings, sort_of, field_of, slot, is_legal_as, is_legal, setting_as, setting_in, setting_text, setting_field, or_all, named, newest}
+use Rattle.synth.specs.Settings.{Name, kill_on_barge_in, fetch_timeout, no_input_timeout, confidence_threshold, sensitivity_level, settings, sort_of, field_of, slot, is_legal_as, is_legal, setting_as, setting_in, setting_text, setting_field, or_all, named, newest}
 use Rattle.synth.specs.Channel.{View, kind, sound}
 use Rattle.synth.specs.Request.{Request, acting}
 use Rattle.synth.specs.Judgement.{optional}
@@ -74,7 +74,7 @@ module _ (name : List ℕ) (e : Edition) where
   abbrev pub Found : List Name → Type 0
   Found ns = All (λ (n : Name). value_of (field_of n) (telling_fields ns) ≡ some (setting_text (slot n e))) ns
 
-  synth_found : (a b : Bool) → Found (or_all (put a killOnBargeIn (put b fetchTimeout [])) (settings Kind.Synthesizer))
+  synth_found : (a b : Bool) → Found (or_all (put a kill_on_barge_in (put b fetch_timeout [])) (settings Kind.Synthesizer))
   unfolding known_of value_of
   synth_found true true = (refl, (refl, tt))
   synth_found true false = (refl, tt)
@@ -82,7 +82,7 @@ module _ (name : List ℕ) (e : Edition) where
   synth_found false false = (refl, (refl, tt))
 
   recog_found : (a b c : Bool)
-      → Found (or_all (put a noInputTimeout (put b confidenceThreshold (put c sensitivityLevel [])))
+      → Found (or_all (put a no_input_timeout (put b confidence_threshold (put c sensitivity_level [])))
       (settings Kind.Recognizer))
   unfolding known_of value_of
   recog_found true true true = (refl, (refl, (refl, tt)))
@@ -97,10 +97,10 @@ module _ (name : List ℕ) (e : Edition) where
   -- whatever is asked for
   pub values_found : (kind : Kind) (given : List Known) → Found (named given (settings kind))
   values_found Kind.Synthesizer given =
-      synth_found (among (field_of killOnBargeIn) given) (among (field_of fetchTimeout) given)
+      synth_found (among (field_of kill_on_barge_in) given) (among (field_of fetch_timeout) given)
   values_found Kind.Recognizer given =
-      recog_found (among (field_of noInputTimeout) given) (among (field_of confidenceThreshold) given)
-      (among (field_of sensitivityLevel) given)
+      recog_found (among (field_of no_input_timeout) given) (among (field_of confidence_threshold) given)
+      (among (field_of sensitivity_level) given)
 
 -- an unset one is told empty
 pub unset_told : setting_text Setting.Unset ≡ []

@@ -11,7 +11,7 @@ use Rattle.octets.specs.Octets.{bytes}
 use Rattle.writers.specs.Decimal.{digits, digits_within, three_digits}
 use Rattle.answer.specs.declared.Kind.{Kind}
 use Rattle.synth.specs.Levels.{quotient, level_in}
-use Rattle.synth.specs.Settings.{Name, killOnBargeIn, fetchTimeout, noInputTimeout, confidenceThreshold, sensitivityLevel, settings, spelling, slot, edition, with_slot, unset, is_legal, setting_in, level_text, setting_text, is_kept, kept_for, is_edition_of, further, edition_at}
+use Rattle.synth.specs.Settings.{Name, kill_on_barge_in, fetch_timeout, no_input_timeout, confidence_threshold, sensitivity_level, settings, spelling, slot, edition, with_slot, unset, is_legal, setting_in, level_text, setting_text, is_kept, kept_for, is_edition_of, further, edition_at}
 use Rattle.synth.specs.declared.Level.{Level}
 use Rattle.synth.specs.declared.Setting.{Setting}
 use Rattle.synth.specs.declared.Edition.{Edition}
@@ -87,7 +87,7 @@ pub names :
 names = refl
 
 abbrev pub every : List Name
-every = killOnBargeIn ∷ fetchTimeout ∷ noInputTimeout ∷ confidenceThreshold ∷ sensitivityLevel ∷ []
+every = kill_on_barge_in ∷ fetch_timeout ∷ no_input_timeout ∷ confidence_threshold ∷ sensitivity_level ∷ []
 
 -- under which names the text is legal
 abbrev legal : String → List Bool
@@ -113,12 +113,12 @@ abbrev told : Name → String → List ℕ
 told n text = setting_text (setting_in n (bytes text))
 
 pub told_values :
-    told killOnBargeIn "TRUE"
-    ∷ told killOnBargeIn "False"
-    ∷ told fetchTimeout "0000000000000000007"
-    ∷ told noInputTimeout "0"
-    ∷ told confidenceThreshold "0.5"
-    ∷ told sensitivityLevel "1"
+    told kill_on_barge_in "TRUE"
+    ∷ told kill_on_barge_in "False"
+    ∷ told fetch_timeout "0000000000000000007"
+    ∷ told no_input_timeout "0"
+    ∷ told confidence_threshold "0.5"
+    ∷ told sensitivity_level "1"
     ∷ setting_text Setting.Unset
     ∷ []
     ≡ bytes "true" ∷ bytes "false" ∷ bytes "7" ∷ bytes "0" ∷ bytes "0.500000" ∷ bytes "1.000000" ∷ [] ∷ []
@@ -200,14 +200,14 @@ of_a_recognizer = refl
 
 -- four editions of another Fetch-Timeout each, and a fifth in front
 abbrev numbered : ℕ → Edition
-numbered n = with_slot fetchTimeout (Setting.Millis n) unset
+numbered n = with_slot fetch_timeout (Setting.Millis n) unset
 
 abbrev four : List Edition
 four = map numbered (1 ∷ 2 ∷ 3 ∷ 4 ∷ [])
 
 abbrev fetches : Option Edition → Option Setting
 fetches none = none
-fetches (some e) = some (slot fetchTimeout e)
+fetches (some e) = some (slot fetch_timeout e)
 
 -- numbers 0 to 5
 abbrev kept : List Edition → List (Option Setting)
