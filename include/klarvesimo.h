@@ -41,7 +41,7 @@
  *
  *      x86-64 Linux             memcpy memmove memset
  *      aarch64-linux-gnu        memcpy memset
- *      arm-linux-gnueabihf      memcpy memmove memset __aeabi_uldivmod
+ *      arm-linux-gnueabihf      memcpy memmove memset
  *      thumbv7em-none-eabihf    __aeabi_memcpy __aeabi_memcpy4 __aeabi_memcpy8 __aeabi_memmove __aeabi_memclr
  *                               __aeabi_memclr4 __aeabi_memclr8 __aeabi_memset4 __aeabi_uldivmod
  *
@@ -50,8 +50,8 @@
  *  - arrays of uint64_t aligned to 8 bytes, as C compilers do. Bytes may begin anywhere: on ARM they are also loaded by
  *    words that are not aligned, so the processor must take that: as a Cortex-M4 does unless CCR.UNALIGN_TRP is set,
  *    and a Cortex-A in normal memory unless SCTLR.A is set;
- *  - at most 6 KB of stack. No call takes more of it, whatever is lent, than 6,128 bytes on x86-64, 6,016 on aarch64,
- *    5,528 on arm, 5,512 on thumbv7em; what the functions named above take for themselves comes on top of that;
+ *  - at most 6 KB of stack. No call takes more of it, whatever is lent, than 5,776 bytes on x86-64, 5,824 on aarch64,
+ *    4,080 on arm, 4,048 on thumbv7em; what the functions named above take for themselves comes on top of that;
  *  - on x86-64 the red zone of that ABI: up to 128 bytes below the stack pointer are in use, so what interrupts a call
  *    and runs on its stack must leave them as they are. There is none on ARM;
  *  - floating-point numbers as C begins with them: rounded to nearest, and subnormal ones taken as they are. So it is

@@ -12,8 +12,7 @@ use Rattle.writers.specs.Decimal.{digits, width}
 use Rattle.writers.specs.SelfLength.{self_length}
 use Rattle.writers.proofs.Digits.{digits_all, digits_number, width_pos, width_below}
 use Rattle.writers.proofs.Theorems.SmallestLength.{self_length_lem}
-use Rattle.framing.specs.Framing.{opening, framed, framing}
-use Rattle.framing.specs.declared.Framing.TheVariants.{Frame}
+use Rattle.framing.specs.Framing.{Frame, opening, framed, framing}
 use Rattle.framing.proofs.Frames.{measured_whole}
 use Rattle.message.specs.Message.{Message}
 use Rattle.answer.specs.Written.{start_text, fields_text, after_length, written}

@@ -5,3 +5,4 @@ pub mod AnswersWritable
 pub mod LongestAnswer
 pub mod WrittenTable
 pub mod ListsJudgedAlike
+pub mod Statuses

@@ -1,5 +1,4 @@
 pub mod Written
 pub mod IdList
 pub mod Answers
-pub mod Causes
 pub mod Writable

@@ -1,14 +1,13 @@
 // The answers and events of a channel: document 01, "Bytes written".
 #![tactic(auto)]
 
-ghost use Rattle.std.specs.Prelude.{◌≡◌, cond, length};
+ghost use Rattle.std.specs.Prelude.{◌≡◌, ◌≤◌, [], cond, length, get_or};
 ghost use Rattle.message.specs.declared.RequestState.{RequestState};
-ghost use Rattle.answer.specs.Answers.{cause_names};
+ghost use Rattle.answer.specs.Answers.{cause_names, event_name};
 ghost use Rattle.answer.specs.declared.Kind.{Kind};
-ghost use Rattle.answer.specs.Causes.{joined, placed};
 
 // A status code.
-#[derive(Clone, Copy)]
+#[derive(Clone, Copy, PartialEq, Eq, Debug)]
 pub struct Status {
     pub code: u32,
 }
@@ -22,172 +21,56 @@ pub struct Answer {
 }
 
 // The kinds of channel.
-#[derive(Clone, Copy)]
+#[derive(Clone, Copy, PartialEq, Eq, Debug)]
 pub enum Kind {
     Synthesizer,
     Recognizer,
 }
 
-// How many causes SPEAK-COMPLETE has, 000 to 007, and RECOGNITION-COMPLETE, 000 to 015.
-pub const SYNTHESIZER_CAUSES: u32 = 8;
-
-pub const RECOGNIZER_CAUSES: u32 = 16;
-
 // The recognizer's cause 011: its request ended with the one before it.
+// A cause is a number: C hands it in, and each kind of channel has names of its own for it.
 pub const CANCELLED: u32 = 11;
 
-// How many bytes the names of a kind's causes have together.
-pub const SYNTHESIZER_BYTES: usize = 92;
-
-pub const RECOGNIZER_BYTES: usize = 247;
-
-// The names of a kind's causes, one behind the other.
-const SYNTHESIZER_NAMES: [u8; SYNTHESIZER_BYTES] =
-    *b"normalbarge-inparse-failureuri-failureerrorlanguage-unsupportedlexicon-load-failurecancelled";
-
-const RECOGNIZER_NAMES: [u8; RECOGNIZER_BYTES] =
-    *b"successno-matchno-input-timeouthotword-maxtimegrammar-load-failuregrammar-compilation-failure\
-    recognizer-errorspeech-too-earlysuccess-maxtimeuri-failurelanguage-unsupportedcancelledsemantics-failure\
-    partial-matchpartial-match-maxtimeno-match-maxtime";
-
-// Where each of them begins, and where the last one ends.
-const SYNTHESIZER_STARTS: [u8; 9] = [0, 6, 14, 27, 38, 43, 63, 83, 92];
-
-const RECOGNIZER_STARTS: [u8; 17] = [
-    0, 7, 15, 31, 46, 66, 93, 109, 125, 140, 151, 171, 180, 197, 210, 231, 247,
-];
-
 impl Status {
-    pub const SUCCESS: u32 = 200;
+    pub const SUCCESS: Status = Status { code: 200 };
 
-    pub const SOME_IGNORED: u32 = 201;
+    pub const SOME_IGNORED: Status = Status { code: 201 };
 
-    pub const METHOD_NOT_ALLOWED: u32 = 401;
+    pub const METHOD_NOT_ALLOWED: Status = Status { code: 401 };
 
-    pub const NOT_VALID_IN_STATE: u32 = 402;
+    pub const NOT_VALID_IN_STATE: Status = Status { code: 402 };
 
-    pub const UNSUPPORTED_FIELD: u32 = 403;
+    pub const UNSUPPORTED_FIELD: Status = Status { code: 403 };
 
-    pub const ILLEGAL_VALUE: u32 = 404;
+    pub const ILLEGAL_VALUE: Status = Status { code: 404 };
 
-    pub const NO_SUCH_CHANNEL: u32 = 405;
+    pub const NO_SUCH_CHANNEL: Status = Status { code: 405 };
 
-    pub const FIELD_MISSING: u32 = 406;
+    pub const FIELD_MISSING: Status = Status { code: 406 };
 
-    pub const OPERATION_FAILED: u32 = 407;
+    pub const OPERATION_FAILED: Status = Status { code: 407 };
 
-    pub const NO_CONTENT: u32 = 408;
+    pub const NO_CONTENT: Status = Status { code: 408 };
 
-    pub const UNSUPPORTED_VALUE: u32 = 409;
+    pub const UNSUPPORTED_VALUE: Status = Status { code: 409 };
 
-    pub const OUT_OF_ORDER: u32 = 410;
+    pub const OUT_OF_ORDER: Status = Status { code: 410 };
 
-    pub const VERSION_UNSUPPORTED: u32 = 502;
+    pub const VERSION_UNSUPPORTED: Status = Status { code: 502 };
 
     // A success: 201 where a field was ignored.
     pub fn success(ignored: bool) -> Status
         ensures { result.code ≡ cond ignored 201 200 }
     {
         if ignored {
-            Status {
-                code: Self::SOME_IGNORED,
-            }
+            Self::SOME_IGNORED
         } else {
-            Status {
-                code: Self::SUCCESS,
-            }
-        }
-    }
-
-    pub fn method_not_allowed() -> Status
-        ensures { result.code ≡ 401 }
-    {
-        Status {
-            code: Self::METHOD_NOT_ALLOWED,
-        }
-    }
-
-    pub fn not_valid_in_state() -> Status
-        ensures { result.code ≡ 402 }
-    {
-        Status {
-            code: Self::NOT_VALID_IN_STATE,
-        }
-    }
-
-    pub fn unsupported_field() -> Status
-        ensures { result.code ≡ 403 }
-    {
-        Status {
-            code: Self::UNSUPPORTED_FIELD,
-        }
-    }
-
-    pub fn illegal_value() -> Status
-        ensures { result.code ≡ 404 }
-    {
-        Status {
-            code: Self::ILLEGAL_VALUE,
-        }
-    }
-
-    pub fn no_such_channel() -> Status
-        ensures { result.code ≡ 405 }
-    {
-        Status {
-            code: Self::NO_SUCH_CHANNEL,
-        }
-    }
-
-    pub fn field_missing() -> Status
-        ensures { result.code ≡ 406 }
-    {
-        Status {
-            code: Self::FIELD_MISSING,
-        }
-    }
-
-    pub fn operation_failed() -> Status
-        ensures { result.code ≡ 407 }
-    {
-        Status {
-            code: Self::OPERATION_FAILED,
-        }
-    }
-
-    pub fn no_content() -> Status
-        ensures { result.code ≡ 408 }
-    {
-        Status {
-            code: Self::NO_CONTENT,
-        }
-    }
-
-    pub fn unsupported_value() -> Status
-        ensures { result.code ≡ 409 }
-    {
-        Status {
-            code: Self::UNSUPPORTED_VALUE,
-        }
-    }
-
-    pub fn out_of_order() -> Status
-        ensures { result.code ≡ 410 }
-    {
-        Status {
-            code: Self::OUT_OF_ORDER,
-        }
-    }
-
-    pub fn version_unsupported() -> Status
-        ensures { result.code ≡ 502 }
-    {
-        Status {
-            code: Self::VERSION_UNSUPPORTED,
+            Self::SUCCESS
         }
     }
 
     // The answer to request `id` with this status, whose request is at an end.
+    // One function for each answer: document 01 asks for functions of the type that build them.
     pub fn complete(self, id: u32) -> Answer
         ensures { (result.id ≡ id) × (result.status ≡ self) × (result.state ≡ RequestState.Complete) }
     {
@@ -221,70 +104,62 @@ impl Status {
     }
 }
 
-// How many causes a kind has.
+// How many causes a kind has: SPEAK-COMPLETE 000 to 007, and RECOGNITION-COMPLETE 000 to 015.
 pub fn cause_count(kind: Kind) -> u32
     ensures { result ≡ length (cause_names kind) }
 {
     match kind {
-        Kind::Synthesizer => SYNTHESIZER_CAUSES,
-        Kind::Recognizer => RECOGNIZER_CAUSES,
+        Kind::Synthesizer => 8,
+        Kind::Recognizer => 16,
     }
 }
 
-// The names of a synthesizer's causes, one behind the other.
-pub fn synthesizer_causes() -> [u8; SYNTHESIZER_BYTES]
-    ensures { result ≡ joined (cause_names Kind.Synthesizer) }
+// The event that ends a kind's requests.
+pub fn event_name(kind: Kind) -> &'static [u8]
+    ensures text { result.now ≡ event_name kind }
+    ensures most { length result.now ≤ 20 }
 {
-    SYNTHESIZER_NAMES
-}
-
-// Where among them the name of a synthesizer's cause stands: behind them all, and with no byte, where there is no such
-// cause.
-pub fn synthesizer_place(cause: u32) -> message::Span
-    ensures { result ≡ placed (cause_names Kind.Synthesizer) cause }
-{
-    if cause < SYNTHESIZER_CAUSES {
-        let starts = SYNTHESIZER_STARTS;
-        let n = cause as usize;
-        let start = starts[n] as usize;
-        let end = starts[n + 1] as usize;
-        message::Span {
-            start,
-            len: end - start,
-        }
-    } else {
-        message::Span {
-            start: SYNTHESIZER_BYTES,
-            len: 0,
-        }
+    match kind {
+        Kind::Synthesizer => b"SPEAK-COMPLETE",
+        Kind::Recognizer => b"RECOGNITION-COMPLETE",
     }
 }
 
-// The names of a recognizer's causes, one behind the other.
-pub fn recognizer_causes() -> [u8; RECOGNIZER_BYTES]
-    ensures { result ≡ joined (cause_names Kind.Recognizer) }
+// The name of a kind's cause; no byte where there is no such cause.
+pub fn cause_name(kind: Kind, cause: u32) -> &'static [u8]
+    ensures text { result.now ≡ get_or (cause_names kind) cause [] }
+    ensures most { length result.now ≤ 27 }
 {
-    RECOGNIZER_NAMES
-}
-
-// Where among them the name of a recognizer's cause stands: behind them all, and with no byte, where there is no such
-// cause.
-pub fn recognizer_place(cause: u32) -> message::Span
-    ensures { result ≡ placed (cause_names Kind.Recognizer) cause }
-{
-    if cause < RECOGNIZER_CAUSES {
-        let starts = RECOGNIZER_STARTS;
-        let n = cause as usize;
-        let start = starts[n] as usize;
-        let end = starts[n + 1] as usize;
-        message::Span {
-            start,
-            len: end - start,
-        }
-    } else {
-        message::Span {
-            start: RECOGNIZER_BYTES,
-            len: 0,
-        }
+    match kind {
+        Kind::Synthesizer => match cause {
+            0 => b"normal",
+            1 => b"barge-in",
+            2 => b"parse-failure",
+            3 => b"uri-failure",
+            4 => b"error",
+            5 => b"language-unsupported",
+            6 => b"lexicon-load-failure",
+            7 => b"cancelled",
+            _ => b"",
+        },
+        Kind::Recognizer => match cause {
+            0 => b"success",
+            1 => b"no-match",
+            2 => b"no-input-timeout",
+            3 => b"hotword-maxtime",
+            4 => b"grammar-load-failure",
+            5 => b"grammar-compilation-failure",
+            6 => b"recognizer-error",
+            7 => b"speech-too-early",
+            8 => b"success-maxtime",
+            9 => b"uri-failure",
+            10 => b"language-unsupported",
+            11 => b"cancelled",
+            12 => b"semantics-failure",
+            13 => b"partial-match",
+            14 => b"partial-match-maxtime",
+            15 => b"no-match-maxtime",
+            _ => b"",
+        },
     }
 }

@@ -10,25 +10,28 @@ ghost use Rattle.settings.specs.Kept.{as_further};
 ghost use Rattle.channel.specs.Channel.{view};
 ghost use Rattle.calls.specs.Promise.{Promise};
 
+use calls::Refusal;
+
 // To the edition that was found of that number: 21 before all, then 12. No output is lent. Editions that no channel of
 // its kind has are the caller's to refuse.
-pub fn go_back(last: synth::LastId, c: channel::Channel, found: settings::Further) -> calls::Handled
+pub fn go_back(
+    last: Option<u32>,
+    c: channel::Channel,
+    found: Option<synth::Edition>,
+) -> Result<calls::Handled, calls::Refused>
     ensures { (es : List Edition) (number : ℕ)
         → (shaped (view last c es) ≡ true → found ≡ as_further (edition_at number es))
         → sound (view last c es) ≡ shaped (view last c es) → Promise last c es (back_to number) [] result [] }
 {
     if !channel::is_shaped(last, c) { // before the number is looked at
-        return calls::refused(last, c, 21, 0);
+        return Err(Refusal::NotSound.into());
     }
-    match found {
-        settings::Further::Nothing => calls::refused(last, c, 12, 0),
-        settings::Further::Of(e) => calls::Handled {
-            number: 0,
-            consumed: 0,
-            written: 0,
-            last,
-            channel: c,
-            further: settings::Further::Of(e),
-        },
-    }
+    let edition = found.ok_or(Refusal::NotKept)?;
+    Ok(calls::Handled {
+        consumed: 0,
+        written: 0,
+        last,
+        channel: c,
+        further: Some(edition),
+    })
 }

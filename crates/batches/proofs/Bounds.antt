@@ -9,9 +9,9 @@ use lib.Dec.{ltb}
 use lib.ListN.{length, take, drop, length-append, length-drop}
 use borrow.Author.Tests.{ltb-false}
 use Rattle.lists.proofs.Tests.{choose}
-use Rattle.framing.specs.Framing.{opening, framing, frame_length}
-use Rattle.framing.specs.declared.Framing.{Framing}
-use Rattle.framing.specs.declared.Framing.TheVariants.{More, NoMessage, TooLong, TooShort, Frame}
+use Rattle.std.specs.Prelude.{Ok, Err}
+use Rattle.framing.specs.Framing.{Framing, opening, framing, frame_length}
+use Rattle.framing.specs.declared.NoFrame.TheVariants.{More, NoMessage, TooLong, TooShort}
 use Rattle.framing.proofs.Frames.{length_there}
 use Rattle.message.specs.Message.{request, response, event, Head, Reading, refused, message, part, on_reading}
 use Rattle.message.specs.StartLines.{Started, started, start_line}
@@ -56,11 +56,11 @@ read_there s = by_framing (framing s) (length_there s)
     by_line_lem h f there (started st at) = there
 
     by_framing : (x : Framing) → frame_length x ≤ length s → Read (length s) (on_reading (part s) (read_framed s x))
-    by_framing More there = zero-le
-    by_framing NoMessage there = zero-le
-    by_framing TooLong there = zero-le
-    by_framing TooShort there = zero-le
-    by_framing (Frame a b k n) there = by_line_lem _ (take n s) there (start_line k (take n s))
+    by_framing (Err More) there = zero-le
+    by_framing (Err NoMessage) there = zero-le
+    by_framing (Err TooLong) there = zero-le
+    by_framing (Err TooShort) there = zero-le
+    by_framing (Ok f) there = by_line_lem _ (take f.length s) there (start_line f.opening (take f.length s))
 
 module _ (v : View) (s : List ℕ) (room : ℕ) where
   answer_within : (m : Reading (List ℕ)) → Read (length s) m → Within (length s) room (answer v room m)

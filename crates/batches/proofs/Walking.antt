@@ -48,8 +48,8 @@ module _ (s : List ℕ) (room n : ℕ) (b : Stand) where
 -- what one message more keeps, all of them keep
 module _ (s : List ℕ) (room : ℕ) (P : Stand → Type 0)
     (keeps : (b : Stand) → (tried s room b).reply.number ≡ 0 → P b → P (onward b (tried s room b))) where
-  keeps_step : (n : ℕ) (b : Stand) → ((c : Stand) → P c → P (walk n s room c)) → (test : Bool) → goes_on_lem s room b ≡ test
-      → P b → P (walk (suc n) s room b)
+  keeps_step : (n : ℕ) (b : Stand) → ((c : Stand) → P c → P (walk n s room c)) → (test : Bool)
+      → goes_on_lem s room b ≡ test → P b → P (walk (suc n) s room b)
   keeps_step n b ih true e h = rw (walk_on s room n b e) (ih (onward b (tried s room b)) (keeps b (eqb-true _ 0 e) h))
   keeps_step n b ih false e h = rw (walk_off s room n b e) h
 

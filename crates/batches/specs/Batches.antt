@@ -1,9 +1,5 @@
 -- A buffer full of messages: document 02, K6.
-use Prim.Native.Nat.{ℕ, zero, suc, ◌+◌, ◌-◌}
-use mathlib.Core.Bool.{true, false}
-use mathlib.Core.List.{List, [], ◌∷◌, ◌++◌}
-use lib.Dec.{eqb}
-use lib.ListN.{length, take, drop}
+use Rattle.std.specs.Prelude.{ℕ, zero, suc, ◌+◌, ◌-◌, true, false, eqb, List, [], ◌∷◌, ◌++◌, length, take, drop}
 use Rattle.framing.specs.Framing.{framing, frame_length}
 use Rattle.ledger.specs.Ledger.{Exchange, Turn}
 use Rattle.synth.specs.Channel.{View}

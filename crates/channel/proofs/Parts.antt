@@ -1,18 +1,18 @@
 -- What the shape of a channel says of it, and of the array behind its name. Assumes nothing.
-use Prim.Native.Nat.{◌≤◌}
-use mathlib.Core.Path.{◌≡◌, refl, sym, ap}
+use Prim.Native.Nat.{ℕ, ◌≤◌}
+use mathlib.Core.Path.{◌≡◌, refl, sym}
 use mathlib.Core.Bool.{Bool, true, false, not, ◌&&◌, beq}
 use mathlib.Core.List.{List}
 use lib.ListN.{length}
 use mir.Val.{Val}
 use denote.Laws.{Is}
 use borrow.Author.Tests.{leb-true}
+use Rattle.std.specs.Prelude.{Option}
 use Rattle.lists.specs.Lists.{is_empty}
 use Rattle.lists.proofs.Tests.{both}
 use Rattle.synth.specs.Kinds.{most, is_state_of}
 use Rattle.synth.specs.Channel.{View, kind, well_named, is_busy, idle_unseen, shaped, are_editions, are_levels, sound}
 use Rattle.synth.specs.declared.Edition.{Edition}
-use Rattle.synth.specs.declared.LastId.{LastId}
 use Rattle.queue.proofs.Queues.{all_levels}
 use Rattle.channelnames.specs.Names.{name_of}
 use Rattle.channelnames.proofs.Names.{length_of, sized}
@@ -49,7 +49,7 @@ by_editions v e l = rw (e, l) (sym (and_true (are_editions (kind v) v.editions))
     and_true false = refl
 
 -- what soundness comes to on a channel by value: its shape, and its editions
-pub shaped_sound : (last : LastId) (c : Channel) (es : List Edition) → shaped (view last c es) ≡ true
+pub shaped_sound : (last : Option ℕ) (c : Channel) (es : List Edition) → shaped (view last c es) ≡ true
     → are_editions (kind (view last c es)) es ≡ sound (view last c es)
 shaped_sound last c es e = by_editions (view last c es) e (all_levels c.queue)
 
@@ -58,5 +58,5 @@ module _ (c : Channel) (vs : List Val) (good : Is the_row c vs) where
   bytes_44 = search length_of
 
   -- the name of a channel of that shape is within it
-  pub size_short : (last : LastId) (es : List Edition) → shaped (view last c es) ≡ true → c.name.size ≤ 44
+  pub size_short : (last : Option ℕ) (es : List Edition) → shaped (view last c es) ≡ true → c.name.size ≤ 44
   size_short last es s = rw (sized c.name bytes_44) at (name_fits_lem (name_of c.name) (shape_named (view last c es) s))

@@ -1,13 +1,11 @@
 // A channel by value, its soundness and its opening: document 01, "Refusal numbers", and document 02, K1 and K5.
 #![tactic(auto)]
 
-ghost use Rattle.std.specs.Prelude.{◌≡◌, ◌≤◌, leb, List};
+ghost use Rattle.std.specs.Prelude.{◌≡◌, ◌≤◌, ℕ, leb, List, Option};
 ghost use Rattle.synth.specs.Kinds.{kind_of};
-ghost use Rattle.synth.specs.Channel.{shaped, with_queue, is, idle_unseen, first_above};
-ghost use Rattle.synth.specs.declared.State.TheVariants.{Idle};
+ghost use Rattle.synth.specs.Channel.{shaped, with_queue, idle_unseen, first_above};
 ghost use Rattle.synth.specs.Calls.{open_channel};
 ghost use Rattle.synth.specs.declared.Edition.{Edition};
-ghost use Rattle.synth.specs.declared.LastId.{LastId};
 ghost use Rattle.channelnames.specs.Names.{name_of};
 ghost use Rattle.queue.specs.Queue.{list_of};
 ghost use Rattle.channel.specs.Channel.{view, current_of, opened, kept};
@@ -31,7 +29,8 @@ pub struct Current {
     pub set: synth::Edition,
 }
 
-// An opening's number, and its channel, on which no id was seen.
+// An opening's number, and its channel, on which no id was seen: no Result, for `open_channel` promises a channel where
+// it refuses too.
 #[derive(Clone, Copy)]
 pub struct Opened {
     pub number: u32,
@@ -39,83 +38,55 @@ pub struct Opened {
 }
 
 // The first id above the last one seen, which needs a 33rd bit.
-pub fn first_above(last: synth::LastId) -> u64
+pub fn first_above(last: Option<u32>) -> u64
     ensures { (result ≡ first_above last) × (result ≤ 4294967296) }
 {
-    match last {
-        synth::LastId::NoneSeen => 0,
-        synth::LastId::Seen(id) => id as u64 + 1,
-    }
+    last.map_or(0, |id| u64::from(id) + 1)
 }
 
 // Whether `id` is above the last one seen.
-pub fn is_above(last: synth::LastId, id: u32) -> bool
+pub fn is_above(last: Option<u32>, id: u32) -> bool
     ensures { result ≡ leb (first_above last) id }
 {
-    first_above(last) <= id as u64
+    first_above(last) <= u64::from(id)
 }
 
 // The kind that the channel's name tells.
 pub fn kind(c: Channel) -> answer::Kind
     ensures { result ≡ kind_of (name_of c.name) }
 {
-    let name = c.name;
-    channelnames::kind(name)
-}
-
-fn is_idle(s: synth::State) -> bool
-    ensures { result ≡ is s Idle }
-{
-    match s {
-        synth::State::Idle => true,
-        synth::State::Speaking => false,
-        synth::State::Paused => false,
-        synth::State::Recognizing => false,
-        synth::State::Recognized => false,
-    }
+    channelnames::kind(c.name)
 }
 
 // Whether the channel is idle, where no id was seen.
-fn idle_unseen(last: synth::LastId, state: synth::State) -> bool
+fn idle_unseen(last: Option<u32>, state: synth::State) -> bool
     ensures { result ≡ idle_unseen last state }
 {
-    match last {
-        synth::LastId::NoneSeen => is_idle(state),
-        synth::LastId::Seen(_) => true,
-    }
+    last.is_some() || matches!(state, synth::State::Idle)
 }
 
 // Soundness but for the editions. Any channel at all may be handed in, its size and its count past the arrays too. No
 // queue has a threshold that reading cannot give.
-pub fn is_shaped(last: synth::LastId, c: Channel) -> bool
+pub fn is_shaped(last: Option<u32>, c: Channel) -> bool
     ensures { (es : List Edition) → result ≡ shaped (view last c es) }
 {
-    let name = c.name;
-    let state = c.state;
-    let queue = c.queue;
-    if !channelnames::is_well_named(name) {
+    if !channelnames::is_well_named(c.name) {
         return false;
     }
-    let kind = channelnames::kind_by(name);
-    if !queue::fits(kind, state, queue::is_empty(queue)) {
-        return false;
-    }
-    if !idle_unseen(last, state) {
-        return false;
-    }
-    queue::is_rising(kind, queue, first_above(last))
+    let kind = channelnames::kind_by(c.name);
+    queue::fits(kind, c.state, queue::is_empty(c.queue))
+        && idle_unseen(last, c.state)
+        && queue::is_rising(kind, c.queue, first_above(last))
 }
 
 pub fn present(c: Channel, set: synth::Edition) -> Current
     ensures { result ≡ current_of c set }
 {
-    let name = c.name;
-    let state = c.state;
-    let queue = c.queue;
+    let Channel { name, queue, state } = c;
     Current {
         name,
-        state,
         queue,
+        state,
         set,
     }
 }
@@ -132,7 +103,7 @@ pub fn fresh(name: channelnames::Name) -> Channel
 }
 
 pub fn with_queue(c: Channel, state: synth::State, queue: queue::Queue) -> Channel
-    ensures { (last : LastId) (es : List Edition)
+    ensures { (last : Option ℕ) (es : List Edition)
         → view last result es ≡ with_queue state (list_of queue) (view last c es) }
 {
     Channel { state, queue, ..c }

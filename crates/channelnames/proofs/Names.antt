@@ -1,11 +1,10 @@
 -- What a name shows of the array and the size behind it. Assumes nothing.
-use Prim.Native.Nat.{ℕ, suc, ◌+◌, ◌-◌, ◌≤◌, ◌<◌}
+use Prim.Native.Nat.{ℕ, ◌-◌, ◌≤◌}
 use mathlib.Core.Path.{◌≡◌, sym, ◌∙◌}
-use mathlib.Core.List.{List, ◌++◌, map, append-nil, append_assoc}
-use native.Mathlib.Numerals.{add-one}
+use mathlib.Core.List.{List, map, append-nil}
 use native.Mathlib.Omega.{arith}
-use lib.ListN.{length, take, get_or, set, replicate, length-append, length-map, length-take, length-replicate}
-use lib.Seq.{take-suc, set_at, length-take-le, take-append_seam}
+use lib.ListN.{length, take, length-append, length-map, length-take, length-replicate}
+use lib.Seq.{take-append_seam}
 use mir.Val.{Val}
 use denote.Laws.{Is}
 use Rattle.channelnames.specs.Names.{name_of, kept_name}
@@ -34,11 +33,3 @@ within n h = let z : n.size - 44 ≡ 0 = omega arith in rw (z, append-nil)
 pub name_kept : (name : List ℕ) → length name ≤ 44 → name_of (kept_name name) ≡ name
 unfolding name_of
 name_kept name h = let z : length name - 44 ≡ 0 = omega arith in rw (z, take-append_seam, append-nil)
-
--- one byte more of a name in front of zeros
-pub padded_more : (name : List ℕ) (i : ℕ) → i < length name → length name ≤ 44
-    → set (take i name ++ replicate (44 - i) 0) i (get_or name i 0) ≡ take (i + 1) name ++ replicate (44 - (i + 1)) 0
-padded_more name i h k =
-    let e : 44 - i ≡ suc (44 - (i + 1)) = omega arith in
-    let l : length (take i name) ≡ i = length-take-le i name (omega arith) in
-    rw (e, add-one i, take-suc name i 0 h, set_at (take i name) 0 (replicate (44 - suc i) 0) (get_or name i 0) i l, append_assoc)

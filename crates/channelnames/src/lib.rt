@@ -11,25 +11,24 @@ ghost use Rattle.channelnames.specs.Names.{name_of, kind_by, kept_name};
 // How many bytes the longest name has.
 pub const LONGEST: usize = 44;
 
-// A name as it is kept: the first `size` of `bytes`.
+// A name as it is kept: the first `size` of `bytes`, for there is no heap, and C keeps both as numbers.
+// No invariant says that the size is within: loading builds a name of 45 on purpose, which no sound channel has.
 #[derive(Clone, Copy)]
 pub struct Name {
     pub bytes: [u8; LONGEST],
     pub size: usize,
 }
 
-// How many letters or digits stand at the front.
+// How many letters or digits stand at the front. `position` and `take_while` were tried, and the proof did not close.
 fn word(name: &[u8]) -> usize
     ensures { (result ≡ run (λ b. is_letter b || is_digit b) name.now) × (result ≤ length name.now) }
 {
-    let mut i: usize = 0;
-    while i < name.len() {
-        if !octets::is_letter_or_digit(name[i]) {
+    for (i, b) in name.iter().enumerate() {
+        if !octets::is_letter_or_digit(*b) {
             return i;
         }
-        i += 1;
     }
-    i
+    name.len()
 }
 
 // How many bytes the end of a name has that tells the kind.
@@ -39,16 +38,18 @@ const RESOURCE: usize = 12;
 const SHORT: usize = 8;
 
 // Whether letters and digits are all that stands before the end, at `k`. Where they are many they are looked for in the
-// whole name: only there does the compiler test several bytes at a time.
+// whole name, for only there does the compiler test several bytes at a time: one by one was tried and too slow
+// (docs/PERFORMANCE.md, "What was tried").
 fn has_word(name: &[u8], k: usize) -> bool
     requires { length name.now ≡ k + 12 }
     ensures { (result ≡ true → run (λ b. is_letter b || is_digit b) (take k name.now) ≡ k)
         × (result ≡ false → well_named name.now ≡ false) }
 {
     if k < SHORT {
-        return word(&name[..k]) == k;
+        word(&name[..k]) == k
+    } else {
+        word(name) == k
     }
-    word(name) == k
 }
 
 // 1 to 32 letters or digits, then `@speechsynth` or `@speechrecog`. The end is counted from behind, so that no byte of
@@ -56,20 +57,14 @@ fn has_word(name: &[u8], k: usize) -> bool
 pub fn well_named(name: &[u8]) -> bool
     ensures { result ≡ well_named name.now }
 {
-    if name.len() <= RESOURCE {
-        return false;
-    }
-    if LONGEST < name.len() {
+    if name.len() <= RESOURCE || LONGEST < name.len() {
         return false;
     }
     let k = name.len() - RESOURCE;
     if !has_word(name, k) {
         return false;
     }
-    if octets::equal(&name[k..], b"@speechsynth") {
-        return true;
-    }
-    octets::equal(&name[k..], b"@speechrecog")
+    octets::equal(&name[k..], b"@speechsynth") || octets::equal(&name[k..], b"@speechrecog")
 }
 
 // The kind that the name tells. A synthesizer's is told by its last byte.
@@ -77,18 +72,15 @@ pub fn kind(n: Name) -> answer::Kind
     ensures { result ≡ kind_of (name_of n) }
 {
     let size = n.size;
-    if size < RESOURCE {
+    if size < RESOURCE || LONGEST < size {
         return answer::Kind::Synthesizer;
     }
-    if LONGEST < size {
-        return answer::Kind::Synthesizer;
-    }
+    // the array alone: a byte of the name in its place would cost a copy of all of it, here and below
     let bytes = n.bytes;
     if bytes[size - 1] != b'g' {
         return answer::Kind::Synthesizer;
     }
-    let start = size - RESOURCE;
-    if octets::equal(&bytes[start..size], b"@speechrecog") {
+    if octets::equal(&bytes[size - RESOURCE..size], b"@speechrecog") {
         answer::Kind::Recognizer
     } else {
         answer::Kind::Synthesizer
@@ -96,59 +88,36 @@ pub fn kind(n: Name) -> answer::Kind
 }
 
 // The kind of a well-formed name, which its last byte tells.
+// Beside `kind`: contracts name both, and of a well-formed name one byte is enough.
 pub fn kind_by(n: Name) -> answer::Kind
     ensures { result ≡ kind_by (name_of n) }
 {
     let size = n.size;
-    if LONGEST < size {
-        return answer::Kind::Synthesizer;
-    }
-    if size == 0 {
+    if size == 0 || LONGEST < size {
         return answer::Kind::Synthesizer;
     }
     let bytes = n.bytes;
     if bytes[size - 1] == b'g' {
-        return answer::Kind::Recognizer;
+        answer::Kind::Recognizer
+    } else {
+        answer::Kind::Synthesizer
     }
-    answer::Kind::Synthesizer
 }
 
 // Any name at all may be handed in, its size past the array too.
 pub fn is_well_named(n: Name) -> bool
     ensures { result ≡ well_named (name_of n) }
 {
-    let size = n.size;
-    if LONGEST < size {
-        return false;
-    }
     let bytes = n.bytes;
-    well_named(&bytes[..size])
+    n.size <= LONGEST && well_named(&bytes[..n.size])
 }
 
 // Whether the name is `v`. One longer than the array is none.
 pub fn is_name(n: Name, v: &[u8]) -> bool
     ensures { result ≡ (leb (length (name_of n)) 44 && same (name_of n) v.now) }
 {
-    let size = n.size;
-    if LONGEST < size {
-        return false;
-    }
     let bytes = n.bytes;
-    octets::equal(&bytes[..size], v)
-}
-
-// The bytes, and zeros after them.
-fn padded(name: &[u8]) -> [u8; LONGEST]
-    requires { length name.now ≤ 44 }
-    ensures { result ≡ name.now ++ replicate (44 - length name.now) 0 }
-{
-    let mut r = [0u8; LONGEST];
-    let mut i: usize = 0;
-    while i < name.len() {
-        r[i] = name[i];
-        i += 1;
-    }
-    r
+    n.size <= LONGEST && octets::equal(&bytes[..n.size], v)
 }
 
 // The name `v` as it is kept; an empty one where it is longer than the array.
@@ -156,13 +125,11 @@ pub fn kept(v: &[u8]) -> Name
     ensures value { length v.now ≤ 44 → result ≡ kept_name v.now }
     ensures value_2 { 44 < length v.now → result ≡ kept_name [] }
 {
-    if LONGEST < v.len() {
-        return Name {
-            bytes: [0u8; LONGEST],
-            size: 0,
-        };
-    }
     let size = v.len();
-    let bytes = padded(v);
+    let mut bytes = [0; LONGEST];
+    if LONGEST < size {
+        return Name { bytes, size: 0 };
+    }
+    bytes[..size].copy_from_slice(v);
     Name { bytes, size }
 }

@@ -156,7 +156,7 @@ module _ (kind : Kind) (w : List ℕ) (e : Edition) (long : length w ≡ 89) {m 
   n = get_or w 64 0
 
   abbrev Pushed : List Edition → Type 0
-  Pushed es = (length ws ≡ 89) × (editions_in kind ws ≡ some (take 4 (e ∷ es)))
+  Pushed es = editions_in kind ws ≡ some (take 4 (e ∷ es))
 
   -- fewer than four stay, of four the oldest goes
   pub pushed_more : Tells kind e → (es : List Edition) → editions_in kind w ≡ some es → n < 4 → m ≡ set w 64 (n + 1)
@@ -166,11 +166,11 @@ module _ (kind : Kind) (w : List ℕ) (e : Edition) (long : length w ≡ 89) {m 
       let count : get_or m 64 0 ≡ suc n =
       ap (λ (l : List ℕ). get_or l 64 0) is ∙ get_or-set_same w 64 (n + 1) 0 (omega (arith, long)) ∙ add-one n in
       let all : take n es ≡ take 3 es = take_all n es (omega (arith, many)) ∙ sym (take_all 3 es (omega (arith, many))) in
-      (u.kept, pushed tells es n n read (omega arith) (omega arith) count all)
+      pushed tells es n n read (omega arith) (omega arith) count all
 
   pub pushed_full : Tells kind e → (es : List Edition) → editions_in kind w ≡ some es → length es ≤ 4 → 4 ≤ n → m ≡ w
       → Pushed es
   pushed_full tells es read few more is =
       let many = editions_many kind w n 65 es read in
       let four : n ≡ suc 3 = omega (arith, many) in
-      (u.kept, pushed tells es n 3 read (omega arith) (omega arith) (ap (λ (l : List ℕ). get_or l 64 0) is ∙ four) refl)
+      pushed tells es n 3 read (omega arith) (omega arith) (ap (λ (l : List ℕ). get_or l 64 0) is ∙ four) refl

@@ -13,6 +13,7 @@ use lib.Seq.{take_all, take_at, take-append-le, drop_at, drop-append-le, drop-dr
 use borrow.Author.Tests.{eqb-true, eqb-false, leb-true}
 use mir.Val.{Val}
 use denote.Laws.{Is}
+use Rattle.std.specs.Prelude.{Option}
 use Rattle.lists.specs.Lists.{all}
 use Rattle.lists.proofs.Tests.{both}
 use Rattle.answer.specs.declared.Kind.{Kind}
@@ -21,7 +22,6 @@ use Rattle.synth.specs.Settings.{unset, is_edition_of}
 use Rattle.synth.specs.Channel.{View, first_above, are_editions}
 use Rattle.synth.specs.declared.Entry.{Entry}
 use Rattle.synth.specs.declared.Edition.{Edition}
-use Rattle.synth.specs.declared.LastId.{LastId}
 use Rattle.synth.proofs.Channels.{most_16}
 use Rattle.channelnames.specs.Names.{name_of, kind_by}
 use Rattle.channelnames.proofs.Names.{size_is, within as name_within}
@@ -30,7 +30,7 @@ use Rattle.queue.proofs.Queues.{entries_in, as_many, count_is, within as queue_w
 use Rattle.channel.specs.Channel.{view}
 use Rattle.channel.specs.declared.Channel.{Channel}
 use Rattle.channel.specs.contracts.Channel.{the_row}
-use Rattle.channelnumbers.specs.Steps.{Stored, Stores, stored, threshold_count}
+use Rattle.channelnumbers.specs.Steps.{Stored, stored, threshold_count}
 use Rattle.channelnumbers.specs.Numbers.{entry_number, thresholds, padded, queue_numbers, edition_numbers, editions_numbers, editions_part, numbers_of}
 
 number_at : (f : ℕ → ℕ) (numbers : List ℕ) (i : ℕ) → i < length numbers → get_or (map f numbers) i 0 ≡ f (get_or numbers i 0)
@@ -231,11 +231,10 @@ module _ (a b c d : ℕ) (p : List ℕ) (n : ℕ) (e : length p ≡ n) (m : ℕ)
       (past_four a b c d (4 + m + k) (m + k) (p ++ zeros (60 - n)) (omega arith) ∙ behind k)
 
 -- the four in front of zeros
-pub four_zeros : (w l zs : List ℕ) (a b c d n : ℕ) {ws : List ℕ} → Stored w 0 (zeros 64) 64 zs
-    → Stores (set (set (set (set zs 0 a) 1 b) 2 c) 3 d) 4 l n ws → Stored (a ∷ b ∷ c ∷ d ∷ zeros 60 ++ drop 64 w) 4 l n ws
-four_zeros w l zs a b c d n {ws} s t =
-    let long : length (set (set (set (set zs 0 a) 1 b) 2 c) 3 d) ≡ 89 = simp length-set s.kept in
-    subst (λ (x : List ℕ). Stored (set (set (set (set x 0 a) 1 b) 2 c) 3 d) 4 l n ws) s.pasted (t long)
+pub four_zeros : (w l zs : List ℕ) (a b c d n : ℕ) {ws : List ℕ} → zs ≡ zeros 64 ++ drop 64 w
+    → Stored (set (set (set (set zs 0 a) 1 b) 2 c) 3 d) 4 l n ws → Stored (a ∷ b ∷ c ∷ d ∷ zeros 60 ++ drop 64 w) 4 l n ws
+four_zeros w l zs a b c d n {ws} e t =
+    subst (λ (x : List ℕ). Stored (set (set (set (set x 0 a) 1 b) 2 c) 3 d) 4 l n ws) e t
 
 -- what the loop over the entries leaves, and that over the thresholds
 module _ (a b c d : ℕ) (queue : List Entry) (numbers levels : List ℕ) (n : ℕ) (is : take n (entries_of numbers levels) ≡ queue)
@@ -325,21 +324,15 @@ editions_four kind es h =
     leb-true n 4 (both (leb 1 n) (leb n 4) (both (leb 1 n && leb n 4) (all (is_edition_of kind) es) h).0).1
 
 -- the first 64 saved in front of the editions
-module _ (v : View) (few : length v.queue ≤ most (kind_by v.name)) (short : length v.name ≤ 44)
-    (four : length v.editions ≤ 4) where
+module _ (v : View) (few : length v.queue ≤ most (kind_by v.name)) (short : length v.name ≤ 44) where
   abbrev tail : List ℕ
   tail = editions_part (kind_by v.name) v.editions
 
-  part_25 : length tail ≡ 25
-  part_25 =
-      simp (length-append, length-replicate) (omega (arith, editions_length (kind_by v.name) v.editions, four))
-
   pub saved_after : (w : List ℕ) {x ws : List ℕ} → length w ≡ 89 → x ≡ take 64 w ++ tail
-      → (length x ≡ 89 → ws ≡ take 64 (numbers_of v) ++ drop 64 x) → ws ≡ numbers_of v
+      → ws ≡ take 64 (numbers_of v) ++ drop 64 x → ws ≡ numbers_of v
   saved_after w {x} {ws} long is saved =
       let front : length (take 64 w) ≡ 64 = length-take-le 64 w (omega (arith, long)) in
-      let all : length x ≡ 89 = ap length is ∙ length-append (take 64 w) tail ∙ omega (arith, front, part_25) in
-      saved all
+      saved
       ∙ ap (λ (l : List ℕ). take 64 (numbers_of v) ++ l) (ap (drop 64) is ∙ drop_at (take 64 w) tail 64 front)
       ∙ all_89 v few short
 
@@ -364,7 +357,7 @@ module _ (c : Channel) (vs : List Val) (good : Is the_row c vs) where
   abbrev ours : Kind
   ours = kind_by (name_of c.name)
 
-  pub saved_numbers : (last : LastId) (es : List Edition) → count ≤ most ours → size ≤ 44 → (t : List ℕ) {a b : ℕ} {w x ws : List ℕ}
+  pub saved_numbers : (last : Option ℕ) (es : List Edition) → count ≤ most ours → size ≤ 44 → (t : List ℕ) {a b : ℕ} {w x ws : List ℕ}
       → Stored (a ∷ b ∷ count ∷ size ∷ zeros 60 ++ t) 4 (map stored c.queue.numbers) count w
       → Stored w 12 (map level_in c.queue.thresholds) (threshold_count ours count) x → Stored x 20 c.name.bytes size ws
       → a ≡ state_number c.state → b ≡ first_above last → ws ≡ take 64 (numbers_of (view last c es)) ++ t

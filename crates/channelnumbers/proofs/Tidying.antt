@@ -6,18 +6,19 @@ use mathlib.Core.Option.{Option, none, some, some-injective}
 use mathlib.Core.List.{List, [], ◌∷◌, ◌++◌, append_assoc, append-nil}
 use native.Mathlib.Nat.{add-zero}
 use native.Mathlib.Omega.{arith}
-use lib.ListN.{length, take, drop, get_or, set, length-replicate, get_or-replicate, drop_of_length-le}
-use lib.Seq.{take-suc, take_all, take-paste, drop-paste, set-get_or, get_or-set_other, get_or-drop}
+use lib.ListN.{length, take, drop, get_or, set, length-take, length-drop, drop_of_length-le}
+use lib.Seq.{take-suc, take_all, drop-drop, take-paste, drop-paste, set-get_or, get_or-set_other, get_or-drop}
+use borrow.Rule.Slice.PartMut.{mid_of, put_mid, post_of}
 use Rattle.answer.specs.declared.Kind.{Kind}
 use Rattle.synth.specs.Settings.{Name, kill_on_barge_in, fetch_timeout, no_input_timeout, confidence_threshold, sensitivity_level}
 use Rattle.synth.specs.Settings.{settings, edition, unset}
 use Rattle.synth.specs.declared.Setting.{Setting}
 use Rattle.synth.specs.declared.Edition.{Edition}
-use Rattle.channelnumbers.specs.Steps.{Stored, Stores, value_kept}
+use Rattle.channelnumbers.specs.Steps.{Stored, value_kept}
 use Rattle.channelnumbers.specs.Numbers.{sort_number, value_number, edition_numbers, editions_numbers, editions_part}
 use Rattle.channelnumbers.specs.Numbers.{setting_at, with_setting, edition_from, joining, editions_from}
 use Rattle.channelnumbers.proofs.Saving.{stored_none, stored_next, stored_same, editions_length, edition_more}
-use Rattle.channelnumbers.proofs.Saving.{zeros, take_zeros}
+use Rattle.channelnumbers.proofs.Saving.{zeros}
 
 -- ---- one edition
 
@@ -91,10 +92,10 @@ module _ (w : List ℕ) (at b d : ℕ) (room : at ≤ 83)
       let three : at + 3 ≡ at + 2 + 1 = omega arith in
       second ∙ ap₂ value_kept (past w at b 2 (omega arith)) (past w at b 3 (omega arith) ∙ ap (λ (k : ℕ). get_or w k 0) three)
 
-  pub synthesizer_tidied : edition_from (settings Kind.Synthesizer) at w ≡ some e
-      → Stores w at (edition_numbers Kind.Synthesizer e) 6
+  pub synthesizer_tidied : length w ≡ 89 → edition_from (settings Kind.Synthesizer) at w ≡ some e
+      → Stored w at (edition_numbers Kind.Synthesizer e) 6
       (set (set (set (set w (at + 1) b) (at + 3) d) (at + 4) 0) (at + 5) 0)
-  synthesizer_tidied h long =
+  synthesizer_tidied long h =
       let s : ℕ = get_or w at 0 in
       let t : ℕ = get_or w (at + 2) 0 in
       let v : ℕ = get_or w (at + 1) 0 in
@@ -108,9 +109,9 @@ module _ (w : List ℕ) (at b d : ℕ) (room : at ≤ 83)
   before = set (set w (at + 1) b) (at + 3) d
 
   pub recognizer_tidied : (f : ℕ) → f ≡ value_kept (get_or before (at + 4) 0) (get_or before (at + 5) 0)
-      → edition_from (settings Kind.Recognizer) at w ≡ some e
-      → Stores w at (edition_numbers Kind.Recognizer e) 6 (set before (at + 5) f)
-  recognizer_tidied f third h long =
+      → length w ≡ 89 → edition_from (settings Kind.Recognizer) at w ≡ some e
+      → Stored w at (edition_numbers Kind.Recognizer e) 6 (set before (at + 5) f)
+  recognizer_tidied f third long h =
       let s : ℕ = get_or w at 0 in
       let t : ℕ = get_or w (at + 2) 0 in
       let m : ℕ = get_or w (at + 2 + 2) 0 in
@@ -224,7 +225,7 @@ module _ (kind : Kind) (w : List ℕ) (es : List Edition) (n : ℕ) (read : edit
   -- one more: it stands behind those that are tidied as it did
   pub tidied_more : {ws after : List ℕ} {i : ℕ} → i < n → Stored w 65 numbers (i * 6) ws
       → ((e : Edition) → edition_from (settings kind) (65 + i * 6) ws ≡ some e
-      → Stores ws (65 + i * 6) (edition_numbers kind e) 6 after) → Stored w 65 numbers ((i + 1) * 6) after
+      → Stored ws (65 + i * 6) (edition_numbers kind e) 6 after) → Stored w 65 numbers ((i + 1) * 6) after
   tidied_more {ws} {after} {i} h s t =
       let many = editions_many kind w n 65 es read in
       let at : ℕ = 65 + i * 6 in
@@ -234,33 +235,29 @@ module _ (kind : Kind) (w : List ℕ) (es : List Edition) (n : ℕ) (read : edit
       edition_as (settings kind) at at ws w
       (λ j l. sym (get_or-drop at ws j 0) ∙ ap (λ (r : List ℕ). get_or r j 0) behind ∙ get_or-drop at w j 0)
       ∙ edition_at_lem kind w n i 65 es h read in
-      edition_more kind es (omega (arith, many)) (omega (arith, many)) s (t (get_or es i unset) same s.kept)
+      edition_more kind es (omega (arith, many)) (omega (arith, many)) s (t (get_or es i unset) same)
 
   -- zeros behind them
-  pub all_tidied : {mid ws : List ℕ} → get_or w 64 0 ≡ n → Stored w 65 numbers (n * 6) mid
-      → Stored mid (65 + n * 6) (zeros 24) (24 - n * 6) ws → ws ≡ take 64 w ++ editions_part kind es
-  all_tidied {mid} {ws} count s t =
+  pub all_tidied : {mid ws : List ℕ} (at : ℕ) → at ≡ 65 + n * 6 → get_or w 64 0 ≡ n → Stored w 65 numbers (n * 6) mid
+      → ws ≡ take at mid ++ zeros (89 - at) → ws ≡ take 64 w ++ editions_part kind es
+  all_tidied {mid} {ws} at place count s t =
       let count_is : get_or w 64 0 ≡ length es = count ∙ sym (editions_many kind w n 65 es read) in
-      let front : take (65 + n * 6) mid ≡ take 64 w ++ (length es ∷ []) ++ numbers =
-      ap (take (65 + n * 6)) s.pasted
+      let front : take at mid ≡ take 64 w ++ (length es ∷ []) ++ numbers =
+      ap₂ take place s.pasted
       ∙ take-paste w 65 numbers (n * 6) (omega (arith, s.long)) (omega (arith, size))
       ∙ ap₂ (λ (p q : List ℕ). p ++ q)
       (take-suc w 64 0 (omega (arith, s.long)) ∙ ap (λ (k : ℕ). take 64 w ++ k ∷ []) count_is)
       (take_all (n * 6) numbers (omega (arith, size))) in
-      let pad : take (24 - n * 6) (zeros 24) ≡ zeros (24 - length numbers) =
-      take_zeros 24 (24 - n * 6) (omega arith) ∙ ap (λ (k : ℕ). zeros (24 - k)) (sym size) in
-      let nothing : drop (65 + n * 6 + (24 - n * 6)) mid ≡ [] =
-      drop_of_length-le mid {i = 65 + n * 6 + (24 - n * 6)} (omega (arith, t.long)) in
-      t.pasted
-      ∙ (λ i. front i ++ pad i ++ nothing i)
-      ∙ append-nil (take 64 w ++ (length es ∷ []) ++ numbers ++ zeros (24 - length numbers))
+      let pad : 89 - at ≡ 24 - length numbers = omega (arith, size) in
+      t
+      ∙ ap₂ (λ (p : List ℕ) (k : ℕ). p ++ zeros k) front pad
       ∙ append_assoc (take 64 w ++ length es ∷ []) numbers (zeros (24 - length numbers))
       ∙ append_assoc (take 64 w) (length es ∷ []) (numbers ++ zeros (24 - length numbers))
 
--- one zero more
-pub zero_more : {w ws : List ℕ} (m at : ℕ) {j : ℕ} → at ≤ j → j < 89 → j - at < m → Stored w at (zeros m) (j - at) ws
-    → Stored w at (zeros m) (j + 1 - at) (set ws j 0)
-zero_more m at {j} h room l s =
-    let next : j - at + 1 ≡ j + 1 - at = omega arith in
-    rw next at
-    (stored_next j 0 (omega arith) (omega arith) (rw length-replicate l) s (sym (get_or-replicate m (j - at) 0 0 l)))
+-- the zeros that fill what is behind
+pub zeros_behind : (at : ℕ) (mid ys : List ℕ) → length mid ≡ 89 → at ≤ 89 → ys ≡ zeros (length (mid_of at (89 - at) mid))
+    → put_mid at (89 - at) mid ys ≡ take at mid ++ zeros (89 - at)
+zeros_behind at mid ys long room e =
+    let many : length (mid_of at (89 - at) mid) ≡ 89 - at = simp (length-take, length-drop) (omega (arith, long)) in
+    let nothing : post_of at (89 - at) mid ≡ [] = drop-drop (89 - at) at mid ∙ drop_of_length-le mid {i = at + (89 - at)} (omega (arith, long)) in
+    ap₂ (λ (l r : List ℕ). take at mid ++ (l ++ r)) (e ∙ ap zeros many) nothing ∙ ap (λ (l : List ℕ). take at mid ++ l) (append-nil (zeros (89 - at)))

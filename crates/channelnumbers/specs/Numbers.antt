@@ -1,8 +1,8 @@
 -- A channel as 89 numbers: state, last id seen, count, size, the queue from 4 on, the name from 20 on, at 64 how many
 -- editions of the settings there are, and those from 65 on.
-use Rattle.std.specs.Prelude.{ℕ, zero, suc, ◌+◌, ◌-◌, ◌*◌, ◌/◌, Bool, true, false, cond, List, [], ◌∷◌, ◌++◌, map, eqb, ltb, length, get_or, replicate}
+use Rattle.std.specs.Prelude.{ℕ, zero, suc, ◌+◌, ◌-◌, ◌*◌, ◌/◌, Bool, true, false, cond, List, [], ◌∷◌, ◌++◌, map, ltb, length, get_or, replicate, Some, None}
+use Rattle.std.specs.declared.option.Option as O
 use Rattle.std.proofs.Math.Option.{Option, none, some}
-use Rattle.lists.specs.Lists.{all}
 use Rattle.answer.specs.declared.Kind.{Kind}
 use Rattle.synth.specs.Kinds.{state_number}
 use Rattle.synth.specs.Levels.{single}
@@ -13,8 +13,6 @@ use Rattle.synth.specs.declared.State.TheVariants.{Idle, Speaking, Paused, Recog
 use Rattle.synth.specs.declared.Entry.{Entry}
 use Rattle.synth.specs.declared.Setting.{Setting}
 use Rattle.synth.specs.declared.Edition.{Edition}
-use Rattle.synth.specs.declared.LastId.{LastId}
-use Rattle.synth.specs.declared.LastId.TheVariants.{NoneSeen, Seen}
 use Rattle.channelnames.specs.Names.{kind_by}
 use Rattle.queue.specs.Queue.{kill_in}
 
@@ -79,9 +77,9 @@ state_at (suc (suc (suc zero))) = some Recognizing
 state_at (suc (suc (suc (suc zero)))) = some Recognized
 state_at (suc (suc (suc (suc (suc n))))) = none
 
-abbrev pub last_at : ℕ → LastId
-last_at zero = NoneSeen
-last_at (suc id) = Seen id
+abbrev pub last_at : ℕ → O.Option ℕ
+last_at zero = None
+last_at (suc id) = Some id
 
 -- unlike `id_in`, not cut to 32 bits: a number outside its range is no sound channel's
 abbrev pub entry_at : ℕ → Entry

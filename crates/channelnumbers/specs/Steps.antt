@@ -24,10 +24,6 @@ pub record Stored (w : List ℕ) (at : ℕ) (l : List ℕ) (n : ℕ) (ws : List 
   pub kept : length ws ≡ 89
   pub pasted : ws ≡ paste w at l n
 
--- where w is as long as what a caller lends: its length is no part of what a function is told of it
-abbrev pub Stores : List ℕ → ℕ → List ℕ → ℕ → List ℕ → Type 0
-Stores w at l n ws = length w ≡ 89 → Stored w at l n ws
-
 -- the value that a setting of that sort has: none where it is unset
 abbrev pub value_kept : ℕ → ℕ → ℕ
 value_kept sort value = elim (eqb sort 0) [ true ↦ 0 | false ↦ value ]

@@ -1,5 +1,5 @@
 -- What a frame comes to on a channel, by its start line; and the bytes of an answer that lists ids or tells settings.
-use Rattle.std.specs.Prelude.{ℕ, List, map, length, take}
+use Rattle.std.specs.Prelude.{ℕ, List, map, length, take, Option, Some, None}
 use Rattle.message.specs.Message as M
 use Rattle.message.specs.StartLines.{Started}
 use Rattle.message.specs.Reading.{asks_params, fields_from, read_from}
@@ -13,7 +13,6 @@ use Rattle.synth.specs.Kinds.{kind_of}
 use Rattle.synth.specs.Settings.{setting_field}
 use Rattle.synth.specs.declared.Edition.{Edition}
 use Rattle.told.specs.Told.{told}
-use Rattle.settings.specs.declared.Further.{Further}
 use Rattle.outcomes.specs.declared.Outcome.{Outcome}
 use Rattle.params.specs.declared.Effect.{Effect}
 use Rattle.synth.specs.Channel.{View}
@@ -42,7 +41,7 @@ settings_told name set a asked =
     written (telling name a.id a.status.code (map (setting_field set) (told (kind_of name) asked)))
 
 -- the edition that a request makes
-abbrev pub made_by : Effect → Further
-made_by Effect.Nothing = Further.Nothing
-made_by (Effect.Set e) = Further.Of e
-made_by (Effect.Tell asked) = Further.Nothing
+abbrev pub made_by : Effect → Option Edition
+made_by Effect.Nothing = None
+made_by (Effect.Set e) = Some e
+made_by (Effect.Tell asked) = None

@@ -20,21 +20,25 @@ ghost use Rattle.judgement.specs.Judged.{Judges};
 ghost use Rattle.calls.specs.Promise.{Leaves, Promise};
 ghost use Rattle.client.specs.Turns.{line_turn, frame_turn, listing, settings_told, made_by};
 
+use calls::Refusal;
+
 // Writes the answer that lists ids under the name of a channel, or nothing where it is longer than the output. No
 // outcome of a judgement lists more than 16.
-fn respond(name: channelnames::Name, o: outcomes::Outcome, out: &mut [u8]) -> output::Written
+fn respond(
+    name: channelnames::Name,
+    o: outcomes::Outcome,
+    out: &mut [u8],
+) -> Result<usize, output::TooLong>
     requires { name.size ≤ 44 }
     ensures value { o.listed.count ≤ 16 → result ≡ counted (listing (name_of name) o) out.old }
     ensures out_after { o.listed.count ≤ 16
         → out.new ≡ delivered (listing (name_of name) o) out.old }
 {
-    let bytes = name.bytes;
-    let listed = o.listed;
-    if queue::MOST < listed.count {
-        return output::Written::TooLong;
+    if queue::MOST < o.listed.count {
+        return Err(output::TooLong);
     }
-    let ids = listed.ids;
-    output::respond(out, &bytes[..name.size], o.answer, &ids[..listed.count])
+    let ids = &o.listed.ids[..o.listed.count];
+    output::respond(out, &name.bytes[..name.size], o.answer, ids)
 }
 
 // Writes the answer that tells the settings asked for, alike.
@@ -44,17 +48,19 @@ fn tell(
     a: answer::Answer,
     asked: u16,
     out: &mut [u8],
-) -> output::Written
+) -> Result<usize, output::TooLong>
     requires { name.size ≤ 44 }
     ensures value { a.state ≡ Complete → result ≡ counted (settings_told (name_of name) set a asked) out.old }
     ensures out_after { a.state ≡ Complete
         → out.new ≡ delivered (settings_told (name_of name) set a asked) out.old }
 {
     let fields = told::text(channelnames::kind(name), set, asked);
-    let text = fields.bytes;
-    let count = fields.count;
-    let bytes = name.bytes;
-    output::tell(out, &bytes[..name.size], a, &text[..count])
+    output::tell(
+        out,
+        &name.bytes[..name.size],
+        a,
+        &fields.bytes[..fields.count],
+    )
 }
 
 // Writes what a request that was judged is answered.
@@ -63,160 +69,128 @@ fn write(
     set: synth::Edition,
     done: params::Done,
     out: &mut [u8],
-) -> output::Written
+) -> Result<usize, output::TooLong>
     requires { name.size ≤ 44 }
     ensures { (v : View) (d : S.Outcome) → v.name ≡ name_of name → newest v.editions ≡ set
         → Does v done.outcome done.effect d
         → (result ≡ counted (written_all d.says) out.old)
         × (out.new ≡ delivered (written_all d.says) out.old) }
 {
-    let outcome = done.outcome;
-    let effect = done.effect;
-    match effect {
-        params::Effect::Nothing => respond(name, outcome, out),
-        params::Effect::Set(_) => respond(name, outcome, out),
-        params::Effect::Tell(asked) => {
-            let a = outcome.answer;
-            tell(name, set, a, asked, out)
-        }
+    match done.effect {
+        params::Effect::Tell(asked) => tell(name, set, done.outcome.answer, asked, out),
+        params::Effect::Nothing | params::Effect::Set(_) => respond(name, done.outcome, out),
     }
 }
 
 // The edition that a request makes.
-fn made(effect: params::Effect) -> settings::Further
+fn made(effect: params::Effect) -> Option<synth::Edition>
     ensures { result ≡ made_by effect }
 {
     match effect {
-        params::Effect::Nothing => settings::Further::Nothing,
-        params::Effect::Set(e) => settings::Further::Of(e),
-        params::Effect::Tell(_) => settings::Further::Nothing,
+        params::Effect::Set(e) => Some(e),
+        params::Effect::Nothing | params::Effect::Tell(_) => None,
     }
 }
 
 // The answer to a request that was judged, or 7 where it is longer than the output.
+// Last id, channel and settings singly: a struct of them is one more copy of the channel.
 fn deliver(
-    last: synth::LastId,
+    last: Option<u32>,
     c: channel::Channel,
     set: synth::Edition,
     consumed: usize,
     j: judgement::Judged,
     out: &mut [u8],
-) -> calls::Handled
+) -> Result<calls::Handled, calls::Refused>
     requires { c.name.size ≤ 44 }
     ensures { (es : List Edition) (d : S.Outcome) → newest es ≡ set → Judges (view last c es) j d
         → Leaves last c es (delivering (view last c es) consumed (length out.old) d)
         out.old result out.new }
 {
-    let done = j.done;
-    let name = c.name;
-    let w = write(name, set, done, out);
-    match w {
-        output::Written::TooLong => calls::refused(last, c, 7, 0), // the caller may lend more and try again
-        output::Written::Count(written) => {
-            let outcome = done.outcome;
-            let state = outcome.state;
-            let queue = outcome.queue;
-            let next = channel::with_queue(c, state, queue);
-            let effect = done.effect;
-            let further = made(effect);
-            let seen = j.last;
-            calls::Handled {
-                number: 0,
-                consumed,
-                written,
-                last: seen,
-                channel: next,
-                further,
-            }
-        }
-    }
+    let written = write(c.name, set, j.done, out)?; // the caller may lend more and try again
+    Ok(calls::Handled {
+        consumed,
+        written,
+        last: j.last,
+        channel: channel::with_queue(c, j.done.outcome.state, j.done.outcome.queue),
+        further: made(j.done.effect),
+    })
 }
 
-// A frame `f` with the start line `start` and fields from `at` on.
+// A frame `f` with that start line.
 fn handle_line(
-    last: synth::LastId,
+    last: Option<u32>,
     c: channel::Channel,
     set: synth::Edition,
     f: &[u8],
-    start: startline::Start,
-    at: usize,
-    major: u64,
-    minor: u64,
+    frame: framing::Framed,
+    line: startline::StartLine,
     out: &mut [u8],
-) -> calls::Handled
+) -> Result<calls::Handled, calls::Refused>
     requires size_bound { c.name.size ≤ 44 }
-    requires in_range { InRange (start_of start) }
+    requires in_range { InRange (start_of line.start) }
     ensures { (es : List Edition) → newest es ≡ set → sound (view last c es) ≡ true → Leaves last c es
-        (line_turn (view last c es) (length out.old) f.now major minor at start)
+        (line_turn (view last c es) (length out.old) f.now frame.major frame.minor line.next line.start)
         out.old result out.new }
 {
-    let length = f.len();
-    match start {
-        startline::Start::Request(name, id) => {
-            let now = channel::present(c, set);
-            let j = judgement::judge(last, now, f, at, major, minor, name, id as u32);
-            deliver(last, c, set, length, j, out)
-        }
-        startline::Start::Response(_, _, _) => calls::refused(last, c, 6, length),
-        startline::Start::Event(_, _, _) => calls::refused(last, c, 6, length),
-    }
+    let startline::Start::Request(name, id) = line.start else {
+        return Err(calls::Refused {
+            refusal: Refusal::NoRequest,
+            consumed: f.len(),
+        });
+    };
+    let now = channel::present(c, set);
+    let j = judgement::judge(
+        last,
+        now,
+        f,
+        line.next,
+        frame.major,
+        frame.minor,
+        name,
+        id as u32,
+    );
+    deliver(last, c, set, f.len(), j, out)
 }
 
-// A frame `f` whose opening has `k` bytes.
+// A frame `f`, of which `frame` says its version and where its start line goes on.
 fn handle_frame(
-    last: synth::LastId,
+    last: Option<u32>,
     c: channel::Channel,
     set: synth::Edition,
     f: &[u8],
-    k: usize,
-    major: u64,
-    minor: u64,
+    frame: framing::Framed,
     out: &mut [u8],
-) -> calls::Handled
+) -> Result<calls::Handled, calls::Refused>
     requires { c.name.size ≤ 44 }
     ensures { (es : List Edition) → newest es ≡ set → sound (view last c es) ≡ true → Leaves last c es
-        (frame_turn (view last c es) (length out.old) f.now major minor
-        (start_line k f.now)) out.old result out.new }
+        (frame_turn (view last c es) (length out.old) f.now frame.major frame.minor
+        (start_line frame.opening f.now)) out.old result out.new }
 {
-    let line = startline::start_line(f, k);
-    match line {
-        startline::StartLine::Malformed => calls::refused(last, c, 5, f.len()),
-        startline::StartLine::Line(start, at) => handle_line(
-            last, c, set, f, start, at, major, minor, out,
-        ),
-    }
+    let Some(line) = startline::start_line(f, frame.opening) else {
+        return Err(calls::Refused {
+            refusal: Refusal::MalformedLine,
+            consumed: f.len(),
+        });
+    };
+    handle_line(last, c, set, f, frame, line, out)
 }
 
 // A client message: 21 before all, then 1 to 6, then 7. Editions that no channel of its kind has are the caller's to
 // refuse.
 pub fn handle(
-    last: synth::LastId,
+    last: Option<u32>,
     c: channel::Channel,
     set: synth::Edition,
     s: &[u8],
     out: &mut [u8],
-) -> calls::Handled
+) -> Result<calls::Handled, calls::Refused>
     ensures { (es : List Edition) → newest es ≡ set → sound (view last c es) ≡ shaped (view last c es)
         → Promise last c es (input s.now) out.old result out.new }
 {
     if !channel::is_shaped(last, c) { // before the bytes are looked at
-        return calls::refused(last, c, 21, 0);
+        return Err(Refusal::NotSound.into());
     }
-    let f = framing::frame(s);
-    match f {
-        framing::Framing::More => calls::refused(last, c, 1, 0),
-        framing::Framing::NoMessage => calls::refused(last, c, 2, 0),
-        framing::Framing::TooLong => calls::refused(last, c, 3, 0),
-        framing::Framing::TooShort => calls::refused(last, c, 4, 0),
-        framing::Framing::Frame(major, minor, k, n) => handle_frame(
-            last,
-            c,
-            set,
-            &s[..n],
-            k,
-            major,
-            minor,
-            out,
-        ),
-    }
+    let frame = framing::frame(s)?;
+    handle_frame(last, c, set, &s[..frame.length], frame, out)
 }

@@ -8,9 +8,9 @@ use lib.Dec.{eqb, ltb}
 use lib.Ieee.{Float}
 use lib.ListN.{length, take}
 use borrow.Author.Tests.{leb-true, leb-false}
-use Rattle.framing.specs.Framing.{framing}
-use Rattle.framing.specs.declared.Framing.{Framing}
-use Rattle.framing.specs.declared.Framing.TheVariants.{More, NoMessage, TooLong, TooShort, Frame}
+use Rattle.std.proofs.Common.{Ok, Err}
+use Rattle.framing.specs.Framing.{Framing, Frame, framing}
+use Rattle.framing.specs.declared.NoFrame.TheVariants.{More, NoMessage, TooLong, TooShort}
 use Rattle.message.specs.Message.{Start, Fields, request, response, event, Head, part, on_reading, message}
 use Rattle.message.specs.StartLines.{Started, started, start_line}
 use Rattle.message.specs.Reading.{read_from, read_framed, reading, read_bytes}
@@ -68,11 +68,11 @@ module _ (v : View) (room : ℕ) where
 
       by_framing : (x : Framing) → framing s ≡ x → read_bytes s ≡ on_reading (part s) (read_framed s x) → Tabled v (input s) room
       unfolding call table
-      by_framing More f e = rw (sane, f, e, call, table) (refl, refl, λ y. refl)
-      by_framing NoMessage f e = rw (sane, f, e, call, table) (refl, refl, λ y. refl)
-      by_framing TooLong f e = rw (sane, f, e, call, table) (refl, refl, λ y. refl)
-      by_framing TooShort f e = rw (sane, f, e, call, table) (refl, refl, λ y. refl)
-      by_framing (Frame a b k n) f e = by_line_lem a b k n f (start_line k (take n s)) refl e
+      by_framing (Err More) f e = rw (sane, f, e, call, table) (refl, refl, λ y. refl)
+      by_framing (Err NoMessage) f e = rw (sane, f, e, call, table) (refl, refl, λ y. refl)
+      by_framing (Err TooLong) f e = rw (sane, f, e, call, table) (refl, refl, λ y. refl)
+      by_framing (Err TooShort) f e = rw (sane, f, e, call, table) (refl, refl, λ y. refl)
+      by_framing (Ok x) f e = by_line_lem x.major x.minor x.opening x.length f (start_line x.opening (take x.length s)) refl e
 
       message_tabled : Tabled v (input s) room
       unfolding read_bytes reading

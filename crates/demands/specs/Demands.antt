@@ -1,12 +1,11 @@
 -- Demands 1 and 3 of the code, over the clause that the contracts of `handle`, `report` and `go_back` promise: document
 -- 01, "Refusal numbers" and "How tight the promises are", and document 02, K1 and K5. The editions stand beside the
 -- channel: those that no channel of its kind has are the caller's to refuse, and FromC.antt says that they are.
-use Rattle.std.specs.Prelude.{ℕ, ◌≡◌, Bool, true, false, not, List, [], ◌∷◌, ◌++◌, eqb, ltb, Float, length, take, drop}
+use Rattle.std.specs.Prelude as P
+use Rattle.std.specs.Prelude.{ℕ, ◌≡◌, Bool, true, false, not, List, [], ◌∷◌, ◌++◌, eqb, ltb, Float, length, take, drop, Result, Ok, Err}
 use Rattle.std.proofs.Math.Option.{Option, none, some}
 use Rattle.lists.specs.Lists.{All}
-use Rattle.framing.specs.Framing.{framing, refusal, frame_length}
-use Rattle.framing.specs.declared.Framing.{Framing}
-use Rattle.framing.specs.declared.Framing.TheVariants.{More, NoMessage, TooLong, TooShort, Frame}
+use Rattle.framing.specs.Framing.{Framing, framing, refusal, frame_length}
 use Rattle.message.specs.Message.{Reading, refused, message, request, response, event}
 use Rattle.message.specs.StartLines.{Started, started, start_line}
 use Rattle.message.specs.Reading.{read_bytes}
@@ -22,13 +21,12 @@ use Rattle.synth.specs.Demand3.{accepts, closes}
 use Rattle.synth.specs.declared.State.{State}
 use Rattle.synth.specs.declared.Entry.{Entry}
 use Rattle.synth.specs.declared.Edition.{Edition}
-use Rattle.synth.specs.declared.LastId.{LastId}
-use Rattle.synth.specs.declared.LastId.TheVariants.{NoneSeen}
 use Rattle.settings.specs.Kept.{further_on}
 use Rattle.channel.specs.Channel.{view, opened}
 use Rattle.channel.specs.declared.Channel.{Channel}
 use Rattle.channel.specs.declared.Opened.{Opened}
-use Rattle.calls.specs.Promise.{Promise, left_in, refusing}
+use Rattle.calls.specs.Promise.{Promise, Returned, returned, left_in, refusing}
+use Rattle.calls.specs.declared.Refused.{Refused}
 use Rattle.calls.specs.declared.Handled.{Handled}
 
 -- a line of the table of refusals, by the paper's columns: its number, given exactly when it is due, and the input consumed
@@ -48,11 +46,8 @@ is_malformed (started start at) = false
 
 -- 5: framed, start line malformed
 abbrev pub malformed_in : List ℕ → Framing → Bool
-malformed_in s More = false
-malformed_in s NoMessage = false
-malformed_in s TooLong = false
-malformed_in s TooShort = false
-malformed_in s (Frame major minor k n) = is_malformed (start_line k (take n s))
+malformed_in s (Err why) = false
+malformed_in s (Ok f) = is_malformed (start_line f.opening (take f.length s))
 
 -- 6: framed, a response or event, no request
 abbrev pub no_request : Reading (List ℕ) → Bool
@@ -139,11 +134,12 @@ first_due (l ∷ ls) = elim l.due [ true ↦ some l | false ↦ first_due ls ]
 
 -- A line that is due: its number and count, no byte written, the very channel, the output as it was. None due: 0, the stated length as
 -- consumed, the exact answer at the front of the output, its rest as it was, and the channel of the outcome.
-abbrev pub ByTable : Option Line → LastId → Channel → List Edition → Lent → List ℕ → Handled → List ℕ → Type 0
-ByTable (some l) last c es lent out r after = (r ≡ refusing last c l.number l.consumed) × (after ≡ out)
+abbrev pub ByTable : Option Line → P.Option ℕ → Channel → List Edition → Lent → List ℕ → Result Handled Refused → List ℕ → Type 0
+ByTable (some l) last c es lent out r after =
+    (returned last c r ≡ refusing last c l.number l.consumed) × (after ≡ out)
 ByTable none last c es lent out r after =
     let answer : List ℕ = exact (view last c es) lent in
-    left_in es r after ≡ record {
+    left_in last c es r after ≡ record {
       number = 0;
       consumed = stated lent;
       written = length answer;
@@ -154,14 +150,15 @@ ByTable none last c es lent out r after =
 -- Demand 1: whatever `handle`, `report` and `go_back` promise is what the first line of the table that is due says, and
 -- a sound channel stays sound
 abbrev pub Demand1OfTheCode : Type 0
-Demand1OfTheCode = (last : LastId) (c : Channel) (es : List Edition) (lent : Lent) (out : List ℕ) (r : Handled) (after : List ℕ)
-    → Promise last c es lent out r after
+Demand1OfTheCode = (last : P.Option ℕ) (c : Channel) (es : List Edition) (lent : Lent) (out : List ℕ)
+    (r : Result Handled Refused) (after : List ℕ) → Promise last c es lent out r after
     → ByTable (first_due (table (view last c es) lent (length out))) last c es lent out r after
-    × (sound (view last c es) ≡ true → sound (view r.last r.channel (further_on r.further es)) ≡ true)
+    × (let came : Returned = returned last c r in
+    sound (view last c es) ≡ true → sound (view came.last came.channel (further_on came.further es)) ≡ true)
 
 -- what a caller keeps from call to call: the last id seen, the channel, and the editions of its settings
 pub record Kept : Type 0 where
-  pub last : LastId
+  pub last : P.Option ℕ
   pub channel : Channel
   pub editions : List Edition
 
@@ -173,20 +170,18 @@ viewed k = view k.last k.channel k.editions
 pub record Called (kept : Kept) (k : Call) (r : Reply) (next : Kept) : Type 0 where
   pub out : List ℕ
   pub after : List ℕ
-  pub handled : Handled
+  pub handled : Result Handled Refused
   pub room : k.room ≡ length out
   pub promised : sound (viewed kept) ≡ shaped (viewed kept)
       → Promise kept.last kept.channel kept.editions k.lent out handled after
-  pub seen : r ≡ record { number = handled.number; consumed = handled.consumed; written = take handled.written after }
-  pub left : next ≡ record {
-    last = handled.last;
-    channel = handled.channel;
-    editions = further_on handled.further kept.editions;
-  }
+  pub seen : let came : Returned = returned kept.last kept.channel handled in
+      r ≡ record { number = came.number; consumed = came.consumed; written = take came.written after }
+  pub left : let came : Returned = returned kept.last kept.channel handled in
+      next ≡ record { last = came.last; channel = came.channel; editions = further_on came.further kept.editions }
 
 -- as `open_channel` returned it: its one edition has every setting unset
 abbrev pub opening : Opened → Kept
-opening o = record { last = NoneSeen; channel = o.channel; editions = unset ∷ [] }
+opening o = record { last = P.None; channel = o.channel; editions = unset ∷ [] }
 
 -- Demand 3: for every list of calls on a channel as `open_channel` returned it, with any outputs
 abbrev pub Demand3OfTheCode : Type 0

@@ -1,18 +1,14 @@
 -- Demands 1 to 3 as C sees them: over what each function of include/klarvesimo.h returns, and leaves in every array
 -- lent to it. Document 01, "Refusal numbers" and "How tight the promises are", and document 02, K1, K3 and K5.
-use Rattle.std.specs.Prelude.{ℕ, ◌≤◌, ◌≡◌, true, not, List, [], ◌∷◌, ◌++◌, eqb, ltb, Float, length, take, drop, get_or}
+use Rattle.std.specs.Prelude.{ℕ, ◌≤◌, ◌≡◌, true, not, List, [], ◌∷◌, ◌++◌, eqb, ltb, Float, length, take, drop, get_or, Ok, Err}
 use Rattle.std.proofs.Math.Option.{Option, none, some}
 use Rattle.lists.specs.Lists.{All, minus}
-use Rattle.framing.specs.Framing.{framing, refusal}
-use Rattle.framing.specs.declared.Framing.{Framing}
-use Rattle.framing.specs.declared.Framing.TheVariants.{More, NoMessage, TooLong, TooShort, Frame}
+use Rattle.framing.specs.Framing.{Framing, framing, refusal}
 use Rattle.message.specs.Message.{Reading, refused, message}
 use Rattle.message.specs.Reading.{reading, messages_in}
 use Rattle.message.specs.declared.Span.{Span}
 use Rattle.whose.specs.Whose as F
-use Rattle.whose.specs.Whose.{whose, Told, whose_face}
-use Rattle.whose.specs.declared.Whose.{Whose}
-use Rattle.whose.specs.declared.Whose.TheVariants as W
+use Rattle.whose.specs.Whose.{Whose, whose, Told, whose_face}
 use Rattle.messagenumbers.specs.Layout.{Face, message_numbers}
 use Rattle.firmware.specs.Face.{frame_face, read_face, ReadCall, called}
 use Rattle.ledger.specs.Ledger.{Exchange, Balanced, Run, Turn, after, trace, accepted, closed}
@@ -82,11 +78,8 @@ channel_in ws = seen_as (view_of ws)
 
 -- the numbers of a frame: version, and the lengths of the opening and of the frame
 abbrev pub frame_numbers : Framing → List ℕ
-frame_numbers More = []
-frame_numbers NoMessage = []
-frame_numbers TooLong = []
-frame_numbers TooShort = []
-frame_numbers (Frame major minor k n) = major ∷ minor ∷ k ∷ n ∷ []
+frame_numbers (Err why) = []
+frame_numbers (Ok f) = f.major ∷ f.minor ∷ f.opening ∷ f.length ∷ []
 
 -- the numbers of a message that is read
 abbrev pub numbers_in : List ℕ → Reading Span → List ℕ
@@ -95,11 +88,8 @@ numbers_in s (message h st fs) = message_numbers (take h.stated s) h st fs
 
 -- the request-id that is told
 abbrev pub id_numbers : Whose → List ℕ
-id_numbers W.More = []
-id_numbers W.NoMessage = []
-id_numbers W.TooShort = []
-id_numbers W.Malformed = []
-id_numbers (W.Id i) = i ∷ []
+id_numbers (Err why) = []
+id_numbers (Ok i) = i ∷ []
 
 -- The table of refusals of the whole C face: the lines of each function, in the order in which they go before each
 -- other.

@@ -1,33 +1,34 @@
--- How digits and numbers go on at a position of the bytes: one law for each way that a turn of the loop can go; and the
--- number, by the digits that were read. Assumes nothing.
+-- How a run of digits goes on, and the number that is read of it. Assumes nothing.
 use mathlib.Core.Path.{◌≡◌, refl, sym, ap, ap₂, ◌∙◌}
-use mathlib.Core.Bool.{Bool, true, false, cond}
+use mathlib.Core.Bool.{true, false, cond}
+use mathlib.Core.Logic.{◌≢◌}
+use Rattle.std.specs.Prelude.{Ok, Err}
 use mathlib.Core.List.{List, [], ◌∷◌}
 use Prim.Native.Nat.{ℕ, zero, suc, ◌+◌, ◌-◌, ◌*◌, ◌^◌, ◌<◌, ◌≤◌, min}
-use native.Mathlib.Nat.{min-zero, zero-min, suc-min-suc}
-use native.Mathlib.Nat.{add_assoc, add-zero, zero-add, not-suc-le-zero, pow-le-pow_right, le_of_suc-le-suc}
-use native.Mathlib.Numerals.{sub-one}
+use native.Mathlib.Nat.{min-zero, zero-min, suc-min-suc, zero-add, not-suc-le-zero, pow-le-pow_right, le_of_suc-le-suc}
+use native.Mathlib.Numerals.{sub-one, one-add}
 use native.Mathlib.Omega.{arith}
 use lib.Bits.{bit_xor}
-use lib.Dec.{eqb, leb, ltb, lit≤}
-use lib.ListN.{length, get_or, take, drop, length-drop, drop_of_length-le}
-use borrow.Author.Tests.{eq-eqb, ne_eqb, le-leb, lt-leb, lt-ltb}
-use Rattle.lists.specs.Lists.{run}
-use Rattle.lists.proofs.Tests.{choose}
+use lib.Dec.{leb, lit≤}
+use lib.ListN.{length, get_or, take, drop, length-take, length-drop}
+use lib.Seq.{take_all, get_or-drop}
+use borrow.Author.Tests.{le-leb, lt-leb}
+use Rattle.lists.specs.Lists.{all, run}
+use Rattle.lists.proofs.Tests.{both, choose}
+use Rattle.lists.proofs.Scans.{run_in, all_append}
 use Rattle.octets.specs.Octets.{is_digit}
 use Rattle.octets.proofs.Bits.{agree}
-use Rattle.readers.specs.Readers.{Read, short, wrong, got, after, digits, number}
-use Rattle.readers.specs.Words.{decimal}
-use Rattle.readers.proofs.Steps.{byte_yes, byte_no}
-use Rattle.readers.proofs.Positions.{here, run_yes, run_no}
-use Rattle.digits.specs.Steps.{scanned, at_most19, run_from, digits_at}
-use Rattle.digits.specs.declared.Scan.{Scan}
+use Rattle.readers.specs.Readers.{short, wrong, got, after, digits, number}
+use Rattle.readers.specs.Words.{decimal, number_of}
+use Rattle.readers.proofs.Steps.{byte_yes}
+use Rattle.readers.proofs.Positions.{run_yes, run_no}
+use Rattle.readers.proofs.Words.{decimal_append}
+use Rattle.std.proofs.lemmas.List.{take_more, take-take, drop_min}
+use Rattle.readers.proofs.Decimals.{number_below}
+use Rattle.readers.specs.declared.Misread.TheVariants.{Short, Wrong}
+use Rattle.digits.specs.Steps.{scanned, one_to19, digits_at}
 use Rattle.digits.specs.declared.Digits.{Digits}
-use Rattle.digits.specs.declared.Run.{Run}
-
--- a digit more may come where at most 18 are there
-pub below_18 : (v k : ℕ) → v < 10 ^ k → k < 19 → v < 10 ^ 18
-below_18 v k h l = omega (arith, pow-le-pow_right {n = 10} (lit≤ tt) {i = k} {j = 18} (le_of_suc-le-suc l))
+use Rattle.digits.specs.declared.Numeral.{Numeral}
 
 -- ---- a byte's worth, by one computation over all 256
 
@@ -47,170 +48,170 @@ module _ (b : ℕ) (h : b < 256) where
   pub worth_some : worth b ≤ 9 → (is_digit b ≡ true) × (worth b ≡ b - 48)
   worth_some l = let d = sym tested ∙ le-leb (worth b) 9 l in (d, rw d at valued)
 
-after_after : {A : Type 0} (a b : ℕ) (r : Read A) → after a (after b r) ≡ after (a + b) r
-after_after a b short = refl
-after_after a b wrong = refl
-after_after a b (got v k) = ap (got v) (sym (add_assoc a b k))
+-- ---- a run of digits, of which the first n bytes of l are digits
 
--- ---- a turn of the loop: the digits before the position i write v, and n more may come
+prefix : (n : ℕ) (l : List ℕ) → all is_digit (take n l) ≡ true → n ≤ length l
+    → (n < length l → is_digit (get_or l n 0) ≡ false) → run is_digit l ≡ n
+prefix zero [] a h e = refl
+prefix zero (x ∷ l) a h e = run_no is_digit x l (e (omega arith))
+prefix (suc n) [] a h e = absurd (not-suc-le-zero h)
+prefix (suc n) (x ∷ l) a h e =
+    let (d, ds) = both (is_digit x) (all is_digit (take n l)) a in
+    run_yes is_digit x l d ∙ ap suc (prefix n l ds (le_of_suc-le-suc h) (λ m. e (omega arith)))
 
-module _ (v : ℕ) (s : List ℕ) (i : ℕ) where
-  pub run_end : (n : ℕ) → n ≡ 0 → run_from n v i (drop i s) ≡ record { value = v; next = i; ended = false }
-  run_end n e = rw e
+module _ (n : ℕ) (l : List ℕ) (fits : length l ≤ 19) (ds : all is_digit (take n l) ≡ true) where
+  -- a digit more may come where at most 18 are there
+  pub below_18 : n < length l → number_of (take n l) < 10 ^ 18
+  below_18 h =
+      let k = length-take n l in
+      let more = pow-le-pow_right {n = 10} (lit≤ tt) {i = length (take n l)} {j = 18} (omega arith) in
+      omega (arith, number_below (take n l) ds, more)
 
-  pub run_stop : (n : ℕ) → 0 < n → i < length s → is_digit (get_or s i 0) ≡ false
-      → run_from n v i (drop i s) ≡ record { value = v; next = i; ended = false }
-  run_stop zero h l e = absurd (not-suc-le-zero h)
-  run_stop (suc n) h l e = rw (here s i l, e, run_from)
-
-  pub run_step : (n m w : ℕ) → n ≡ suc m → i < length s → is_digit (get_or s i 0) ≡ true → w ≡ v * 10 + (get_or s i 0 - 48)
-      → run_from n v i (drop i s) ≡ run_from m w (i + 1) (drop (i + 1) s)
-  run_step n m w k l e q = rw (k, here s i l, q, e, run_from)
-
--- ---- where fewer bytes are there than digits may come
-
--- at the bytes' end or past it
-pub run_past : (n at : ℕ) (s : List ℕ) → length s ≤ at
-    → record { value = 0; next = at; ended = ltb 0 n } ≡ run_from n 0 at (drop at s)
-run_past zero at s h = refl
-run_past (suc n) at s h = rw (drop_of_length-le s h, lt-ltb 0 (suc n) (omega arith))
-
--- a run that ends where the bytes end shows that they do
-abbrev shown : ℕ → Run → Run
-shown end r = record { value = r.value; next = r.next; ended = eqb r.next end }
-
--- past a byte: `all` comes after a digit where no more bytes are asked for than are there, and `rest` where more are
-past : (i k v : ℕ) (all rest : Run) (b : Bool) → shown (i + 1 + k) all ≡ rest
-    → (let stop : Run = record { value = v; next = i; ended = false } in
-    shown (i + suc k) (elim b [ true ↦ all | false ↦ stop ]) ≡ elim b [ true ↦ rest | false ↦ stop ])
-past i k v all rest true more = ap (λ end. shown end all) (omega arith) ∙ more
-past i k v all rest false more =
-    ap (λ e. record { value = v; next = i; ended = e }) (ne_eqb i (i + suc k) (omega arith))
-
-run_all : (n v i : ℕ) (l : List ℕ) → length l < n → shown (i + length l) (run_from (length l) v i l) ≡ run_from n v i l
-run_all zero v i l h = absurd (not-suc-le-zero h)
-run_all (suc n) v i [] h = ap (λ e. record { value = v; next = i; ended = e }) (eq-eqb i (i + 0) (sym (add-zero i)))
-run_all (suc n) v i (x ∷ l) h =
-    let w = v * 10 + (x - 48) in
-    past i (length l) v (run_from (length l) w (i + 1) l) (run_from n w (i + 1) l) (is_digit x)
-    (run_all n w (i + 1) l (le_of_suc-le-suc h))
-
-pub run_shown : (n at : ℕ) (s : List ℕ) (r : Run) → at ≤ length s → length s - at < n
-    → r ≡ run_from (length s - at) 0 at (drop at s)
-    → record { value = r.value; next = r.next; ended = eqb r.next (length s) } ≡ run_from n 0 at (drop at s)
-run_shown n at s r h k e =
-    let d = length-drop at s in
-    ap (shown (length s)) e
-    ∙ ap₂ (λ end m. shown end (run_from m 0 at (drop at s))) (omega (arith, d)) (sym d)
-    ∙ run_all n 0 at (drop at s) (omega (arith, d))
-
--- ---- what was read, as the definitions have it
-
-run_next : (n v i : ℕ) (l : List ℕ) → (run_from n v i l).next ≡ i + min (run is_digit l) n
-run_next zero v i l = omega arith
-run_next (suc n) v i [] = omega arith
-run_next (suc n) v i (x ∷ l) =
-    choose (λ (r : Run). r.next ≡ i + min (run is_digit (x ∷ l)) (suc n)) (is_digit x)
-    (λ e. omega (arith, run_yes is_digit x l e, run_next n (v * 10 + (x - 48)) (i + 1) l))
-    (λ e. omega (arith, run_no is_digit x l e))
-
-run_value : (n v i : ℕ) (l : List ℕ) → (run_from n v i l).value ≡ decimal v (take (min (run is_digit l) n) l)
-run_value zero v i l = rw (min-zero (run is_digit l))
-run_value (suc n) v i [] = rw (zero-min (suc n))
-run_value (suc n) v i (x ∷ l) =
-    choose (λ (r : Run). r.value ≡ decimal v (take (min (run is_digit (x ∷ l)) (suc n)) (x ∷ l))) (is_digit x)
-    (λ e. rw (run_yes is_digit x l e, suc-min-suc (run is_digit l) n) (run_value n (v * 10 + (x - 48)) (i + 1) l))
-    (λ e. rw (run_no is_digit x l e, zero-min (suc n)))
-
-module _ (most i : ℕ) (l : List ℕ) (r : Run) (e : r ≡ run_from (at_most19 most) 0 i l) where
-  ends : r.next ≡ i + min (run is_digit l) (at_most19 most)
-  ends = ap (λ (x : Run). x.next) e ∙ run_next (at_most19 most) 0 i l
-
-  pub run_onward : i ≤ r.next
-  run_onward = omega (arith, ends)
-
-  pub run_digits : record { value = r.value; count = r.next - i } ≡ digits_at most l
+  pub run_ends : (v : ℕ) → v ≡ number_of (take n l) → n ≤ length l → (n < length l → is_digit (get_or l n 0) ≡ false)
+      → record { value = v; count = n } ≡ digits_at 19 l
   unfolding digits_at
-  run_digits =
-      ap₂ {C = Digits} (λ (v k : ℕ). record { value = v; count = k })
-      (ap (λ (x : Run). x.value) e ∙ run_value (at_most19 most) 0 i l)
-      (omega (arith, ends))
+  run_ends v e h other =
+      let k : n ≡ min (run is_digit l) 19 = omega (arith, prefix n l ds h other) in
+      ap₂ {C = Digits} (λ v k. record { value = v; count = k }) (e ∙ ap (λ n. number_of (take n l)) k) k
+
+  pub one_more : n < length l → is_digit (get_or l n 0) ≡ true
+      → (all is_digit (take (n + 1) l) ≡ true)
+      × (number_of (take n l) * 10 + (get_or l n 0 - 48) ≡ number_of (take (n + 1) l))
+  one_more h d =
+      let x = get_or l n 0 in
+      rw (take_more l n 0 h)
+      (all_append is_digit (take n l) (x ∷ []) ds (rw d refl), sym (decimal_append 0 (take n l) (x ∷ [])))
+
+-- the digit at a position, among those from `at` on
+pub digit_at : (s : List ℕ) (at next : ℕ) → at ≤ next → get_or (drop at s) (next - at) 0 ≡ get_or s next 0
+digit_at s at next h =
+    let here : at + (next - at) ≡ next = omega arith in
+    get_or-drop at s (next - at) 0 ∙ ap (λ i. get_or s i 0) here
+
+-- ---- at most so many of them
+
+run_take : (m : ℕ) (l : List ℕ) → run is_digit (take m l) ≡ min (run is_digit l) m
+run_take zero l = rw (min-zero (run is_digit l))
+run_take (suc m) [] = rw (zero-min (suc m))
+run_take (suc m) (x ∷ l) =
+    choose (λ n. n ≡ min (run is_digit (x ∷ l)) (suc m)) (is_digit x)
+    (λ e. rw (run_yes is_digit x l e, suc-min-suc (run is_digit l) m) (ap suc (run_take m l)))
+    (λ e. rw (run_no is_digit x l e, zero-min (suc m)))
+
+module _ (most : ℕ) (l : List ℕ) where
+  pub digits_front : (m : ℕ) → m ≡ min most 19 → digits_at 19 (take m l) ≡ digits_at most l
+  unfolding digits_at
+  digits_front m e =
+      let k : min (run is_digit (take m l)) 19 ≡ min (run is_digit l) (min most 19) = omega (arith, run_take m l) in
+      ap₂ {C = Digits} (λ v k. record { value = v; count = k })
+      (ap number_of
+      (take-take (min (run is_digit (take m l)) 19) m l (omega (arith, run_take m l)) ∙ ap (λ n. take n l) k)) k
+
+  pub digits_capped : digits_at (min most 19) l ≡ digits_at most l
+  unfolding digits_at
+  digits_capped =
+      let k : min (run is_digit l) (min (min most 19) 19) ≡ min (run is_digit l) (min most 19) = omega arith in
+      ap (λ n. record { value = number_of (take n l); count = n }) k
+
+  pub digits_few : (m : ℕ) → m ≡ min most 19 → length l < m → digits_at 19 l ≡ digits_at most l
+  digits_few m e h = ap (digits_at 19) (sym (take_all m l (omega arith))) ∙ digits_front m e
 
 -- ---- a number, by the digits that were read
 
--- what the reader answers, by whether the bytes end there; and what that is for a number, by whether no digit was read
-abbrev read_by : Bool → ℕ → ℕ → Read ℕ
-read_by true v i = short
-read_by false v i = got v i
+digits_short : (n v : ℕ) (l : List ℕ) → length l < n → length l ≤ run is_digit l → digits n v l ≡ short
+digits_short zero v l h e = absurd (not-suc-le-zero h)
+digits_short (suc n) v [] h e = refl
+digits_short (suc n) v (x ∷ l) h e =
+    choose (λ r. r ≡ short) (is_digit x)
+    (λ d.
+    let y = run_yes is_digit x l d in
+    ap (after 1) (digits_short n (v * 10 + (x - 48)) l (le_of_suc-le-suc h) (omega (arith, y))))
+    (λ d. absurd (omega (arith, run_no is_digit x l d)))
 
-abbrev pub number_by_lem : Bool → Bool → ℕ → ℕ → Scan
-number_by_lem true none v i = Scan.Short
-number_by_lem false true v i = Scan.Wrong
-number_by_lem false false v i = Scan.Got v i
+digits_got : (n v : ℕ) (l : List ℕ) → (run is_digit l < n → run is_digit l < length l)
+    → digits n v l ≡ got (decimal v (take (min (run is_digit l) n) l)) (min (run is_digit l) n)
+digits_got zero v l h = rw (min-zero (run is_digit l))
+digits_got (suc n) v [] h = absurd (omega (arith, h (omega arith)))
+digits_got (suc n) v (x ∷ l) h =
+    let k = min (run is_digit (x ∷ l)) (suc n) in
+    let m = min (run is_digit l) n in
+    let w = v * 10 + (x - 48) in
+    choose (λ r. r ≡ got (decimal v (take k (x ∷ l))) k) (is_digit x)
+    (λ d.
+    let y = run_yes is_digit x l d in
+    ap (after 1) (digits_got n w l (λ q. omega (arith, y, h (omega arith))))
+    ∙ rw (y, suc-min-suc (run is_digit l) n) (ap (got (decimal w (take m l))) (one-add m)))
+    (λ d. rw (run_no is_digit x l d, zero-min (suc n)))
 
-abbrev read : Run → Read ℕ
-read r = read_by r.ended r.value r.next
+-- a number is digits, of which one is there
+number_digits : (n : ℕ) (l : List ℕ) → (0 < length l → 0 < run is_digit l) → number (suc n) l ≡ digits (suc n) 0 l
+number_digits n [] h = refl
+number_digits n (x ∷ l) h =
+    choose (λ r. r ≡ digits (suc n) 0 (x ∷ l)) (is_digit x)
+    (λ d.
+    rw (sub-one, ← zero-add (x - 48))
+    (sym (byte_yes is_digit (λ x. digits n (0 * 10 + (x - 48))) (got 0 0) x l d)))
+    (λ d. absurd (omega (arith, h (omega arith), run_no is_digit x l d)))
 
-abbrev numbered : ℕ → Run → Scan
-numbered at r = number_by_lem r.ended (eqb r.next at) r.value r.next
+number_wrong : (n : ℕ) (l : List ℕ) → 0 < length l → run is_digit l ≡ 0 → number n l ≡ wrong
+number_wrong n [] h e = absurd (omega arith)
+number_wrong n (x ∷ l) h e =
+    choose (λ r. r ≡ wrong) (is_digit x) (λ d. absurd (omega (arith, run_yes is_digit x l d))) (λ d. refl)
 
-run_read : (n v i : ℕ) (l : List ℕ) → after i (digits n v l) ≡ read (run_from n v i l)
-run_read zero v i l = ap (got v) (add-zero i)
-run_read (suc n) v i [] = refl
-run_read (suc n) v i (x ∷ l) =
-    choose (λ (r : Run). after i (digits (suc n) v (x ∷ l)) ≡ read r) (is_digit x)
-    (λ e.
-    ap (after i) (byte_yes is_digit (λ x. digits n (v * 10 + (x - 48))) (got v 0) x l e)
-    ∙ after_after i 1 (digits n (v * 10 + (x - 48)) l)
-    ∙ run_read n (v * 10 + (x - 48)) (i + 1) l)
-    (λ e.
-    ap (after i) (byte_no is_digit (λ x. digits n (v * 10 + (x - 48))) (got v 0) x l e)
-    ∙ ap (got v) (add-zero i))
+-- the digits r that are read at a position, or at the end of the bytes where it is past them
+module _ (s : List ℕ) (at max n from : ℕ) (r : Numeral) (m : n ≡ one_to19 max) (f : from ≡ min at (length s))
+    (b : from ≤ r.next) (e : record { value = r.value; count = r.next - from } ≡ digits_at n (drop from s)) where
+  abbrev left : List ℕ
+  left = drop at s
 
-scan_of : Read ℕ → Scan
-scan_of short = Scan.Short
-scan_of wrong = Scan.Wrong
-scan_of (got v i) = Scan.Got v i
+  abbrev count : ℕ
+  count = r.next - from
 
-scan_after : (at : ℕ) (r : Read ℕ) → scanned at r ≡ scan_of (after at r)
-unfolding scan_of
-scan_after at short = refl
-scan_after at wrong = refl
-scan_after at (got v n) = refl
+  asked : record { value = r.value; count = count } ≡ digits_at n left
+  asked = e ∙ ap (digits_at n) (ap (λ m. drop m s) f ∙ drop_min at s)
 
-some_read : (at : ℕ) (r : Run) → at < r.next → scan_of (read r) ≡ numbered at r
-unfolding scan_of
-some_read at r h =
-    go r.ended
-    ∙ ap (λ z. number_by_lem r.ended z r.value r.next) (sym (ne_eqb r.next at (omega arith)))
-  where
-    go : (b : Bool) → scan_of (read_by b r.value r.next) ≡ number_by_lem b false r.value r.next
-    go true = refl
-    go false = refl
+  counts : count ≡ min (run is_digit left) n
+  unfolding digits_at
+  counts = let c : count ≡ min (run is_digit left) (min n 19) = ap (λ (d : Digits). d.count) asked in omega arith
 
-number_run : (at n : ℕ) (l : List ℕ) → 0 < n → scanned at (number n l) ≡ numbered at (run_from n 0 at l)
-number_run at zero l h = absurd (not-suc-le-zero h)
-number_run at (suc n) [] h = refl
-number_run at (suc n) (x ∷ l) h =
-    let more = run_from n (x - 48) (at + 1) l in
-    let rest : digits (suc n - 1) (x - 48) l ≡ digits n (x - 48) l = rw sub-one in
-    let same : run_from n (0 * 10 + (x - 48)) (at + 1) l ≡ more = rw (zero-add (x - 48)) in
-    choose (λ (r : Run). scanned at (number (suc n) (x ∷ l)) ≡ numbered at r) (is_digit x)
-    (λ e.
-    ap (scanned at) (byte_yes is_digit (λ x. digits (suc n - 1) (x - 48)) wrong x l e ∙ ap (after 1) rest)
-    ∙ scan_after at (after 1 (digits n (x - 48) l))
-    ∙ ap scan_of (after_after at 1 (digits n (x - 48) l) ∙ run_read n (x - 48) (at + 1) l)
-    ∙ some_read at more (omega (arith, run_next n (x - 48) (at + 1) l))
-    ∙ ap (numbered at) (sym same))
-    (λ e.
-    ap (scanned at) (byte_no is_digit (λ x. digits (suc n - 1) (x - 48)) wrong x l e)
-    ∙ ap (λ z. number_by_lem false z 0 at) (sym (eq-eqb at at refl)))
+  written : r.value ≡ number_of (take count left)
+  unfolding digits_at
+  written =
+      ap (λ (d : Digits). d.value) asked
+      ∙ ap (λ n. number_of (take n left)) (sym (ap (λ (d : Digits). d.count) asked))
 
--- the number, by what is tested of the digits
-pub number_by : (at n : ℕ) (l : List ℕ) (r : Run) → r ≡ run_from n 0 at l → 0 < n
-    → (ended none : Bool) → r.ended ≡ ended → eqb r.next at ≡ none
-    → number_by_lem ended none r.value r.next ≡ scanned at (number n l)
-number_by at n l r e some ended none h z =
-    ap₂ (λ a b. number_by_lem a b r.value r.next) (sym h) (sym z)
-    ∙ ap (numbered at) e
-    ∙ sym (number_run at n l some)
+  -- there is room for them
+  inside : count ≤ length s - at
+  inside = omega (arith, counts, run_in is_digit left, length-drop at s)
+
+  module _ (k : ℕ) (i : suc k ≡ n) where
+    short_lem : length s - from < n → r.next ≡ length s → number n left ≡ short
+    short_lem h l =
+        let c = counts in
+        let x = length-drop at s in
+        rw (← i) (number_digits k left (omega arith) ∙ digits_short (suc k) 0 left (omega arith) (omega arith))
+
+    got_lem : (length s - from < n → r.next ≢ length s) → r.next ≢ from → number n left ≡ got r.value count
+    got_lem h l =
+        let c : min (run is_digit left) (suc k) ≡ count = omega (arith, counts) in
+        let x = length-drop at s in
+        ap (λ n. number n left) (sym i) ∙ number_digits k left (λ _. omega arith)
+        ∙ digits_got (suc k) 0 left (λ q. grind (arith, h, c, x, q, run_in is_digit left))
+        ∙ ap₂ got (ap (λ n. number_of (take n left)) c ∙ sym written) c
+
+  pub scanned_short : length s - from < n → r.next ≡ length s → Err Short ≡ scanned at (number (one_to19 max) left)
+  scanned_short h l = ap (scanned at) (sym (short_lem (n - 1) (omega arith) h l) ∙ ap (λ n. number n left) m)
+
+  pub scanned_wrong : (length s - from < n → r.next ≢ length s) → r.next ≡ from
+      → Err Wrong ≡ scanned at (number (one_to19 max) left)
+  scanned_wrong h z =
+      let c = counts in
+      let x = length-drop at s in
+      ap (scanned at) (sym (number_wrong n left (grind (arith, h, x, z)) (omega arith)) ∙ ap (λ n. number n left) m)
+
+  pub scanned_got : (length s - from < n → r.next ≢ length s) → r.next ≢ from
+      → Ok r ≡ scanned at (number (one_to19 max) left)
+  scanned_got h z =
+      let place : r.next ≡ at + count = omega (arith, inside) in
+      ap (λ k. Ok (record { value = r.value; next = k })) place
+      ∙ ap (scanned at) (sym (got_lem (n - 1) (omega arith) h z) ∙ ap (λ n. number n left) m)

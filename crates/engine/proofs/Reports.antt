@@ -1,20 +1,18 @@
 -- What an engine report comes to, one law for each way out. Assumes nothing.
 use Prim.Native.Nat.{ℕ, suc, ◌≤◌, ◌<◌}
 use mathlib.Core.Path.{◌≡◌, refl, sym, ap, ap₂, ◌∙◌}
-use mathlib.Core.Bool.{Bool, true, false, ◌&&◌, not, beq, false≢true}
+use mathlib.Core.Bool.{Bool, true, false, not, beq, false≢true}
 use mathlib.Core.List.{List, [], ◌∷◌, append-nil}
 use lib.Ieee.{Float}
 use lib.ListN.{length}
-use borrow.Author.Tests.{le-leb, lt-leb, leb-true}
+use borrow.Author.Tests.{le-leb, lt-leb}
 use native.Mathlib.Nat.{le_trans}
 use Rattle.lists.specs.Lists.{is_empty}
-use Rattle.lists.proofs.Tests.{both}
 use Rattle.answer.specs.Written.{written, written_all}
 use Rattle.answer.specs.Answers.{cause_names, complete, completes}
 use Rattle.answer.specs.declared.Kind.{Kind}
 use Rattle.ledger.specs.Ledger.{Turn}
-use Rattle.synth.specs.Kinds.{most, is_state_of}
-use Rattle.synth.specs.Channel.{View, kind, well_named, with_queue, ids, is_busy, idle_unseen, shaped, sound}
+use Rattle.synth.specs.Channel.{View, kind, with_queue, ids, is_busy, shaped, sound}
 use Rattle.synth.specs.Calls.{report, Reply, refuse, deliver, awaits, is_no_cause, is_no_score, reported, ending, call}
 use Rattle.synth.specs.States.{Outcome, while_any, is_match, ends_one, recognized, completed}
 use Rattle.synth.specs.declared.Entry.{Entry}

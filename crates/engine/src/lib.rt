@@ -14,14 +14,17 @@ ghost use Rattle.channel.specs.Channel.{view};
 ghost use Rattle.calls.specs.Promise.{Leaves, Promise};
 ghost use Rattle.engine.specs.Endings.{ends_marked};
 
+use calls::Refusal;
+
 // The event that ends a synthesizer's active one, or 7 where it is longer than the output. The next becomes active and
 // speaking.
+// A private step, as those below: `shaped` is what the one test in `report` gives.
 fn end_speech(
-    last: synth::LastId,
+    last: Option<u32>,
     c: channel::Channel,
     cause: u32,
     out: &mut [u8],
-) -> calls::Handled
+) -> Result<calls::Handled, calls::Refused>
     requires { (es : List Edition) → shaped (view last c es) ≡ true }
     ensures { (es : List Edition) (e : Entry) (queue : List Entry) → list_of c.queue ≡ e ∷ queue
         → Leaves last c es (delivered (view last c es) 0 (length out.old)
@@ -29,91 +32,76 @@ fn end_speech(
         out.new }
 {
     let active = queue::active(c.queue);
-    let name = c.name;
-    let bytes = name.bytes;
-    let w = output::speak_complete(out, &bytes[..name.size], active.id, cause);
-    match w {
-        output::Written::TooLong => calls::refused(last, c, 7, 0),
-        output::Written::Count(sent) => {
-            let rest = queue::without_active(c.queue);
-            let state = queue::while_any(synth::State::Idle, synth::State::Speaking, rest);
-            let next = channel::with_queue(c, state, rest);
-            calls::Handled {
-                number: 0,
-                consumed: 0,
-                written: sent,
-                last,
-                channel: next,
-                further: settings::Further::Nothing,
-            }
-        }
-    }
+    let name = &c.name.bytes[..c.name.size];
+    let written = output::complete(out, answer::Kind::Synthesizer, name, active.id, cause)?;
+    let rest = queue::without_active(c.queue);
+    let state = queue::while_any(synth::State::Idle, synth::State::Speaking, rest);
+    Ok(calls::Handled {
+        consumed: 0,
+        written,
+        last,
+        channel: channel::with_queue(c, state, rest),
+        further: None,
+    })
 }
 
 // The events that end those of a recognizer's which the mask marks, or 7 where they are longer than the output.
 fn end_recognitions(
-    last: synth::LastId,
+    last: Option<u32>,
     c: channel::Channel,
     mask: u64,
     cause: u32,
     out: &mut [u8],
-) -> calls::Handled
+) -> Result<calls::Handled, calls::Refused>
     requires { (es : List Edition) → shaped (view last c es) ≡ true }
     ensures { (es : List Edition) → Leaves last c es
         (delivered (view last c es) 0 (length out.old) (ends_marked mask (view last c es) cause))
         out.old result out.new }
 {
     let ended = queue::end(c.queue, mask);
-    let listed = ended.listed;
-    let ids = listed.ids;
-    let name = c.name;
-    let bytes = name.bytes;
-    let w = output::complete_all(out, &bytes[..name.size], &ids[..listed.count], cause);
-    match w {
-        output::Written::TooLong => calls::refused(last, c, 7, 0),
-        output::Written::Count(sent) => {
-            let rest = ended.queue;
-            let state = queue::while_any(synth::State::Recognized, synth::State::Recognizing, rest);
-            let next = channel::with_queue(c, state, rest);
-            calls::Handled {
-                number: 0,
-                consumed: 0,
-                written: sent,
-                last,
-                channel: next,
-                further: settings::Further::Nothing,
-            }
-        }
-    }
+    let ids = &ended.listed.ids[..ended.listed.count];
+    let name = &c.name.bytes[..c.name.size];
+    let written = output::complete_all(out, name, ids, cause)?;
+    let rest = ended.queue;
+    let state = queue::while_any(synth::State::Recognized, synth::State::Recognizing, rest);
+    Ok(calls::Handled {
+        consumed: 0,
+        written,
+        last,
+        channel: channel::with_queue(c, state, rest),
+        further: None,
+    })
 }
 
 // What ends on a recognizer, by the cause that the report counts as.
 fn end_recognized(
-    last: synth::LastId,
+    last: Option<u32>,
     c: channel::Channel,
     cause: u32,
     out: &mut [u8],
-) -> calls::Handled
+) -> Result<calls::Handled, calls::Refused>
     requires { (es : List Edition) → shaped (view last c es) ≡ true }
     ensures { (es : List Edition) (e : Entry) (queue : List Entry) → list_of c.queue ≡ e ∷ queue
         → Leaves last c es (delivered (view last c es) 0 (length out.old)
         (recognized e queue (view last c es) cause)) out.old result out.new }
 {
-    if scores::is_match(cause) {
-        return end_recognitions(last, c, queue::ACTIVE, cause, out);
-    }
-    end_recognitions(last, c, queue::ALL, cause, out)
+    let ended = if scores::is_match(cause) {
+        queue::ACTIVE
+    } else {
+        queue::ALL
+    };
+    end_recognitions(last, c, ended, cause, out)
 }
 
 // What ends, by the channel's kind.
 fn complete(
-    last: synth::LastId,
+    last: Option<u32>,
     c: channel::Channel,
     kind: answer::Kind,
     cause: u32,
     score: f32,
     out: &mut [u8],
-) -> calls::Handled
+) -> Result<calls::Handled, calls::Refused>
     requires { (es : List Edition) → shaped (view last c es) ≡ true }
     ensures { (es : List Edition) (e : Entry) (queue : List Entry) → list_of c.queue ≡ e ∷ queue
         → Leaves last c es (delivered (view last c es) 0 (length out.old)
@@ -132,28 +120,27 @@ fn complete(
 // An engine report: 21 before all, then 9, then 11, then 8, then 7. The editions are not handed in: where they are none
 // of a channel's, it is the caller who refuses with 21.
 pub fn report(
-    last: synth::LastId,
+    last: Option<u32>,
     c: channel::Channel,
     cause: u32,
     score: f32,
     out: &mut [u8],
-) -> calls::Handled
+) -> Result<calls::Handled, calls::Refused>
     ensures { (es : List Edition) → sound (view last c es) ≡ shaped (view last c es)
         → Promise last c es (report_of cause score) out.old result out.new }
 {
     if !channel::is_shaped(last, c) { // before the cause is looked at
-        return calls::refused(last, c, 21, 0);
+        return Err(Refusal::NotSound.into());
     }
     let kind = channel::kind(c);
     if answer::cause_count(kind) <= cause {
-        return calls::refused(last, c, 9, 0);
+        return Err(Refusal::NoCause.into());
     }
     if scores::is_none(kind, score) {
-        return calls::refused(last, c, 11, 0);
+        return Err(Refusal::NoScore.into());
     }
-    let state = c.state;
-    if !queue::awaits(state) {
-        return calls::refused(last, c, 8, 0);
+    if !queue::awaits(c.state) {
+        return Err(Refusal::NothingAwaited.into());
     }
     complete(last, c, kind, cause, score, out)
 }

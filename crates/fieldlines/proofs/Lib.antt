@@ -1,5 +1,4 @@
 pub mod Runs
-pub mod Classed
 pub mod Folding
 pub mod Ending
 pub mod ByRuns

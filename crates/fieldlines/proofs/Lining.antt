@@ -11,6 +11,7 @@ use lib.Dec.{eqb, leb}
 use lib.ListN.{length, drop, take}
 use lib.Seq.{drop-drop, take-nil}
 use borrow.Author.Tests.{eqb-true, le-leb, lt-leb}
+use Rattle.std.specs.Prelude.{Some}
 use Rattle.lists.specs.Lists.{run}
 use Rattle.lists.proofs.Tests.{both}
 use Rattle.octets.specs.Octets.{is_name, is_value, is_blank, is_gap}
@@ -19,7 +20,8 @@ use Rattle.readers.proofs.Positions.{apart, run_yes, run_no}
 use Rattle.message.specs.Fields.{trim_end, trimmed, Line, empty, field, raw_at, field_line}
 use Rattle.message.specs.Folds.{raw}
 use Rattle.message.specs.declared.Span.{Span}
-use Rattle.fieldlines.specs.Steps.{ends_at, value_run, field_to}
+use Rattle.fieldlines.specs.Steps.{line_of, ends_at, value_run, field_within, field_to}
+use Rattle.fieldlines.specs.declared.Line as C
 use Rattle.fieldlines.proofs.Runs.{text}
 use Rattle.fieldlines.proofs.Folding.{run_ended, values_first}
 use Rattle.fieldlines.proofs.ByRuns.{named, valued, by_runs}
@@ -47,19 +49,23 @@ module _ (s : List ℕ) (at n e : ℕ) where
   abbrev behind_colon : List ℕ
   behind_colon = text s (n + 1) e
 
-  pub field_open : ends_at (drop e s) ≡ false → field_to s at n e ≡ Line.malformed
-  field_open h = ap {B = Line} (λ b. elim b [ true ↦ as_field (trimmed (n + 1) behind_colon) | false ↦ Line.malformed ]) h
-
-  pub field_done : ends_at (drop e s) ≡ true → (v : ℕ) → v ≡ n + 1 + run is_gap behind_colon → v ≤ e
-      → (last : ℕ) → last ≡ v + length (trim_end (text s v e))
-      → field_to s at n e ≡ as_field (record { start = v; len = last - v })
-  field_done h v ev le last el =
+  -- the value without the gaps at both its ends
+  done : ends_at (drop e s) ≡ true → (v : ℕ) → v ≡ n + 1 + run is_gap behind_colon → v ≤ e
+      → field_to s at n e ≡ as_field (record { start = v; len = length (trim_end (text s v e)) })
+  done h v ev le =
       let b : run is_gap behind_colon ≡ v - (n + 1) = omega arith in
-      let l : length (trim_end (text s v e)) ≡ last - v = omega arith in
       let off = ap (λ b. length (trim_end (drop b behind_colon))) b
       ∙ ap (λ t. length (trim_end t)) (text_from s (n + 1) v e (omega arith) le) in
       ap {B = Line} (λ b. elim b [ true ↦ as_field (trimmed (n + 1) behind_colon) | false ↦ Line.malformed ]) h
-      ∙ ap₂ (λ start len. as_field (record { start = start; len = len })) (sym ev) (off ∙ l)
+      ∙ ap₂ (λ start len. as_field (record { start = start; len = len })) (sym ev) off
+
+  pub field_done : ends_at (drop e s) ≡ true → n < e
+      → (v : ℕ) → v ≡ n + 1 + run is_gap (drop (n + 1) (take e s)) → v ≤ e
+      → Some (C.Line.Field (field_within s at n v e) (e + 2)) ≡ line_of (field_to s at n e)
+  field_done h l v ev le =
+      let far : e ≡ n + 1 + (e - (n + 1)) = omega arith in
+      let same = ap (λ e. drop (n + 1) (take e s)) far ∙ drop_take (n + 1) (e - (n + 1)) s in
+      ap line_of (sym (done h v (ev ∙ ap (λ t. n + 1 + run is_gap t) same) le))
 
 -- in value bytes, the gaps are the blanks
 value_gap : (x : ℕ) → is_value x ≡ true → is_gap x ≡ is_blank x
@@ -190,12 +196,12 @@ module _ (s : List ℕ) (at n : ℕ) (e : n ≡ at + run is_name (drop at s)) wh
               ) in
               line_value ∙ ap (field_to s at n) same
 
-          pub line_field : ends_at (drop end s) ≡ true → (last : ℕ) → last ≡ v + length (trim_end (text s v end))
-              → field_line at (drop at s) ≡ as_field s at n end (record { start = v; len = last - v })
-          line_field c last el =
+          pub line_field : ends_at (drop end s) ≡ true
+              → Some (C.Line.Field (field_within s at n v end) (end + 2)) ≡ line_of (field_line at (drop at s))
+          line_field c =
               let w = drop (n + 1) s in
               let k : end - (n + 1) ≡ run is_value w = omega (arith, values) in
               let gaps = ap (λ k. run is_gap (take k w)) k ∙ gaps_first w in
-              line_folded ∙ ap (λ m. field_to s at n (end + m)) (run_ended (drop end s) c)
+              ap line_of (sym (line_folded ∙ ap (λ m. field_to s at n (end + m)) (run_ended (drop end s) c)
               ∙ ap (field_to s at n) (add-zero end)
-              ∙ field_done s at n end c v (ev ∙ ap (λ k. n + 1 + k) (sym gaps)) (omega arith) last el
+              ∙ done s at n end c v (ev ∙ ap (λ k. n + 1 + k) (sym gaps)) (omega arith)))

@@ -1,8 +1,6 @@
 -- What the calls of the C face hand back: document 01, last section. include/klarvesimo.h is their manual.
-use Rattle.std.specs.Prelude.{ℕ, zero, suc, List, [], ◌∷◌, take, set}
-use Rattle.framing.specs.Framing.{framing, refusal}
-use Rattle.framing.specs.declared.Framing.{Framing}
-use Rattle.framing.specs.declared.Framing.TheVariants.{More, NoMessage, TooLong, TooShort, Frame}
+use Rattle.std.specs.Prelude.{ℕ, zero, suc, List, [], ◌∷◌, take, set, Ok, Err}
+use Rattle.framing.specs.Framing.{Framing, framing, refusal}
 use Rattle.message.specs.Message.{Reading, refused, message}
 use Rattle.message.specs.Reading.{reading}
 use Rattle.message.specs.declared.Span.{Span}
@@ -10,11 +8,8 @@ use Rattle.messagenumbers.specs.Layout.{Face, handed, message_numbers}
 
 -- the number of a refusal; else version, and the lengths of the opening and of the frame
 abbrev pub framed : Framing → List ℕ → Face
-framed More out = record { number = refusal More; out = out }
-framed NoMessage out = record { number = refusal NoMessage; out = out }
-framed TooLong out = record { number = refusal TooLong; out = out }
-framed TooShort out = record { number = refusal TooShort; out = out }
-framed (Frame major minor k n) out = handed (major ∷ minor ∷ k ∷ n ∷ []) out
+framed (Err why) out = record { number = refusal (Err why); out = out }
+framed (Ok f) out = handed (f.major ∷ f.minor ∷ f.opening ∷ f.length ∷ []) out
 
 unfoldable pub frame_face : List ℕ → List ℕ → Face
 frame_face s out = framed (framing s) out

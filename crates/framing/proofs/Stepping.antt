@@ -1,22 +1,22 @@
--- An opening is read step by step: what is left of the reader, from what the last step found, gives what the whole reader gives.
--- Assumes nothing.
+-- An opening is read step by step, each from the position that the one before it gave: this gives what the reader
+-- gives. Assumes nothing.
 use mathlib.Core.Path.{◌≡◌, refl, sym, ap, ◌∙◌}
 use mathlib.Core.List.{List}
 use Prim.Native.Nat.{ℕ, ◌+◌}
 use native.Mathlib.Nat.{add_assoc, add-zero, zero-add}
 use lib.ListN.{drop}
 use lib.Seq.{drop-drop}
+use Rattle.std.specs.Prelude.{Result, Ok, Err}
+use Rattle.octets.specs.Octets.{bytes}
 use Rattle.readers.specs.Readers.{Read, short, wrong, got, after, next, Reader, ◌>>=◌, ◌>>◌, done, text, number}
 use Rattle.readers.specs.Steps.{placed}
+use Rattle.readers.specs.declared.Misread.{Misread}
 use Rattle.digits.specs.Steps.{scanned, one_to19}
-use Rattle.readers.specs.declared.Place.{Place}
-use Rattle.digits.specs.declared.Scan.{Scan}
-use Rattle.framing.specs.Framing.{measured, framed}
-use Rattle.framing.specs.Steps.{text_after, number_after, value_of, front_of}
+use Rattle.digits.specs.declared.Numeral.{Numeral}
+use Rattle.framing.specs.Framing.{opening}
+use Rattle.framing.specs.Steps.{front_of}
 use Rattle.framing.specs.declared.Opening.{Opening}
 use Rattle.framing.specs.declared.Front.{Front}
-use Rattle.framing.specs.declared.Framing.{Framing}
-use Rattle.framing.specs.declared.Framing.TheVariants.{More, NoMessage}
 
 module _ {A : Type 0} where
   after_after : (a b : ℕ) (r : Read A) → after a (after b r) ≡ after (a + b) r
@@ -29,81 +29,77 @@ module _ {A : Type 0} where
   after_zero wrong = refl
   after_zero (got v k) = ap (got v) (zero-add k)
 
-  -- a reader on the bytes behind a text
-  abbrev pub behind_text : List ℕ → Place → Reader A → Read A
-  behind_text s Place.Short q = short
-  behind_text s Place.Wrong q = wrong
-  behind_text s (Place.At at) q = after at (q (drop at s))
+-- a step that goes on where the one before it did not fail
+abbrev pub onward : {A : Type 0} → Result A Misread → (A → Result Front Misread) → Result Front Misread
+onward (Ok x) f = f x
+onward (Err why) f = Err why
 
-  -- a reader on the bytes behind a number
-  abbrev pub behind_number : List ℕ → Scan → (ℕ → Reader A) → Read A
-  behind_number s Scan.Short q = short
-  behind_number s Scan.Wrong q = wrong
-  behind_number s (Scan.Got v at) q = after at (q v (drop at s))
+onward_alike : {A : Type 0} (r : Result A Misread) {f g : A → Result Front Misread}
+    → ((x : A) → f x ≡ g x) → onward r f ≡ onward r g
+onward_alike (Ok x) h = h x
+onward_alike (Err why) h = refl
 
-  module _ (s : List ℕ) where
-    text_at : (at : ℕ) (t : List ℕ) (q : Reader A) → after at ((text t >> q) (drop at s)) ≡ behind_text s (placed at (text t (drop at s))) q
-    text_at at t q = go (text t (drop at s))
-      where
-        go : (r : Read (Unit {0})) → after at (next r (λ _. q) (drop at s)) ≡ behind_text s (placed at r) q
-        go short = refl
-        go wrong = refl
-        go (got u n) = after_after at n (q (drop n (drop at s))) ∙ ap (λ l. after (at + n) (q l)) (drop-drop n at s)
+module _ (s : List ℕ) where
+  -- the text, or the number, that stands at a position
+  abbrev pub text_here : ℕ → List ℕ → Result ℕ Misread
+  text_here at t = placed at (text t (drop at s))
 
-    number_at : (at max : ℕ) (q : ℕ → Reader A) → after at ((number max >>= q) (drop at s)) ≡ behind_number s (scanned at (number max (drop at s))) q
-    number_at at max q = go (number max (drop at s))
-      where
-        go : (r : Read ℕ) → after at (next r q (drop at s)) ≡ behind_number s (scanned at r) q
-        go short = refl
-        go wrong = refl
-        go (got v n) = after_after at n (q v (drop n (drop at s))) ∙ ap (λ l. after (at + n) (q v l)) (drop-drop n at s)
+  abbrev pub number_here : ℕ → ℕ → Result Numeral Misread
+  number_here at max = scanned at (number (one_to19 max) (drop at s))
 
-    -- the first step
-    pub by_first : (t : List ℕ) (q : Reader A) (p : Place) → p ≡ placed 0 (text t (drop 0 s)) → (text t >> q) s ≡ behind_text s p q
-    by_first t q p e = sym (after_zero ((text t >> q) s)) ∙ text_at 0 t q ∙ ap (λ p. behind_text s p q) (sym e)
+  -- a reader on the bytes behind a position
+  abbrev from : ℕ → Reader Opening → Result Front Misread
+  from at q = front_of (after at (q (drop at s)))
 
-    -- a text behind a number
-    pub by_text : (n : Scan) (t : List ℕ) (q : ℕ → Reader A) (p : Place) → p ≡ text_after s n t
-        → behind_number s n (λ v. text t >> q v) ≡ behind_text s p (q (value_of n))
-    by_text n t q p e = go n ∙ ap (λ p. behind_text s p (q (value_of n))) (sym e)
-      where
-        go : (n : Scan) → behind_number s n (λ v. text t >> q v) ≡ behind_text s (text_after s n t) (q (value_of n))
-        go Scan.Short = refl
-        go Scan.Wrong = refl
-        go (Scan.Got v at) = text_at at t (q v)
+  by_text : (at : ℕ) (t : List ℕ) (q : Reader Opening) → from at (text t >> q) ≡ onward (text_here at t) (λ k. from k q)
+  by_text at t q = go (text t (drop at s))
+    where
+      go : (r : Read (Unit {0}))
+          → front_of (after at (next r (λ _. q) (drop at s))) ≡ onward (placed at r) (λ k. from k q)
+      go short = refl
+      go wrong = refl
+      go (got u n) =
+          ap front_of (after_after at n (q (drop n (drop at s))) ∙ ap (λ l. after (at + n) (q l)) (drop-drop n at s))
 
-    -- a number behind a text
-    pub by_number : (p : Place) (max : ℕ) (q : ℕ → Reader A) (n : Scan) → n ≡ number_after s p max
-        → behind_text s p (number (one_to19 max) >>= q) ≡ behind_number s n q
-    by_number p max q n e = go p ∙ ap (λ n. behind_number s n q) (sym e)
-      where
-        go : (p : Place) → behind_text s p (number (one_to19 max) >>= q) ≡ behind_number s (number_after s p max) q
-        go Place.Short = refl
-        go Place.Wrong = refl
-        go (Place.At at) = number_at at (one_to19 max) q
+  by_number : (at max : ℕ) (q : ℕ → Reader Opening)
+      → from at (number (one_to19 max) >>= q) ≡ onward (number_here at max) (λ n. from n.next (q n.value))
+  by_number at max q = go (number (one_to19 max) (drop at s))
+    where
+      go : (r : Read ℕ)
+          → front_of (after at (next r q (drop at s))) ≡ onward (scanned at r) (λ n. from n.next (q n.value))
+      go short = refl
+      go wrong = refl
+      go (got v n) =
+          ap front_of
+          (after_after at n (q v (drop n (drop at s))) ∙ ap (λ l. after (at + n) (q v l)) (drop-drop n at s))
 
--- the answer by what the last step found
-abbrev pub front_at : Place → Opening → Front
-front_at Place.Short o = Front.Short
-front_at Place.Wrong o = Front.Wrong
-front_at (Place.At k) o = Front.Got o.major o.minor o.stated k
+  by_end : (at : ℕ) (o : Opening) → from at (done o) ≡ Ok (record { opening = o; length = at })
+  by_end at o = ap (λ k. Ok (record { opening = o; length = k })) (add-zero at)
 
-pub by_last : (s : List ℕ) (p : Place) (o : Opening) → front_of (behind_text s p (done o)) ≡ front_at p o
-by_last s Place.Short o = refl
-by_last s Place.Wrong o = refl
-by_last s (Place.At k) o = ap (λ k. Front.Got o.major o.minor o.stated k) (add-zero k)
+  -- the opening, step by step
+  abbrev pub stepped : Result Front Misread
+  stepped =
+      onward (text_here 0 (bytes "MRCP/")) λ k₁.
+      onward (number_here k₁ 2) λ major.
+      onward (text_here major.next (bytes ".")) λ k₂.
+      onward (number_here k₂ 2) λ minor.
+      onward (text_here minor.next (bytes " ")) λ k₃.
+      onward (number_here k₃ 19) λ stated.
+      onward (text_here stated.next (bytes " ")) λ k.
+      Ok (record {
+        opening = record { major = major.value; minor = minor.value; stated = stated.value };
+        length = k;
+      })
 
--- an opening by its three numbers
-pub front_alike : (k : ℕ) {a b n a' b' n' : ℕ} → a ≡ a' → b ≡ b' → n ≡ n' → Front.Got a b n k ≡ Front.Got a' b' n' k
-front_alike k p q r = rw (p, q, r)
-
--- and then the measure
-abbrev pub framed_by : Front → ℕ → Framing
-framed_by Front.Short lent = More
-framed_by Front.Wrong lent = NoMessage
-framed_by (Front.Got a b n k) lent = measured (record { major = a; minor = b; stated = n }) k lent
-
-pub by_front : (r : Read Opening) (lent : ℕ) → framed_by (front_of r) lent ≡ framed r lent
-by_front short lent = refl
-by_front wrong lent = refl
-by_front (got o k) lent = refl
+  pub by_steps : front_of (opening s) ≡ stepped
+  unfolding opening
+  by_steps =
+      ap front_of (sym (after_zero (opening s)))
+      ∙ by_text 0 (bytes "MRCP/") _ ∙ onward_alike _ λ k₁.
+      by_number k₁ 2 _ ∙ onward_alike _ λ (major : Numeral).
+      by_text major.next (bytes ".") _ ∙ onward_alike _ λ k₂.
+      by_number k₂ 2 _ ∙ onward_alike _ λ (minor : Numeral).
+      by_text minor.next (bytes " ") _ ∙ onward_alike _ λ k₃.
+      by_number k₃ 19 _ ∙ onward_alike _ λ (stated : Numeral).
+      by_text stated.next (bytes " ") _ ∙ onward_alike _ λ k.
+      by_end k _

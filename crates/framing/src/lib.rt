@@ -4,127 +4,127 @@
 ghost use Rattle.std.specs.Prelude.{◌≡◌, [], ◌∷◌, drop};
 ghost use Rattle.readers.specs.Readers.{text as text_of};
 ghost use Rattle.readers.specs.Steps.{placed};
-ghost use Rattle.framing.specs.Framing.{opening, framing, measured};
-ghost use Rattle.framing.specs.Steps.{text_after, number_after, value_of, front_of};
+ghost use Rattle.framing.specs.Framing.{opening, framing, measured, unread, refusal};
+ghost use Rattle.framing.specs.Steps.{front_of};
 
 // What an opening says: the version, and the length of the whole message.
-#[derive(Clone, Copy)]
+#[derive(Clone, Copy, PartialEq, Eq, Debug)]
 pub struct Opening {
     pub major: u64,
     pub minor: u64,
     pub stated: u64,
 }
 
-// What stands at the front of the lent bytes: a proper beginning of some opening, nothing that can become one, or an
-// opening: its version, the length that it states, and its own length.
-#[derive(Clone, Copy)]
-pub enum Front {
-    Short,
-    Wrong,
-    Got(u64, u64, u64, usize),
+// The opening at the front of the lent bytes, and its own length.
+#[derive(Clone, Copy, PartialEq, Eq, Debug)]
+pub struct Front {
+    pub opening: Opening,
+    pub length: usize,
 }
 
-// Where the message at the front of the lent bytes ends; or why that is not known.
-#[derive(Clone, Copy)]
-pub enum Framing {
-    More,
-    NoMessage,
-    TooLong,
-    TooShort,
-    // Version, and the lengths of the opening and of the frame.
-    Frame(u64, u64, usize, usize),
+// A message that is there whole: its version, and the lengths of its opening and of all of it.
+#[derive(Clone, Copy, PartialEq, Eq, Debug)]
+pub struct Framed {
+    pub major: u64,
+    pub minor: u64,
+    pub opening: usize,
+    pub length: usize,
 }
 
-// The byte `b` at `at`.
-fn byte_at(s: &[u8], at: usize, b: u8) -> readers::Place
+// Why no message stands at the front of the lent bytes, or not yet.
+#[derive(Clone, Copy, PartialEq, Eq, Debug)]
+pub enum NoFrame {
+    More = 1,
+    NoMessage = 2,
+    TooLong = 3,
+    TooShort = 4,
+}
+
+impl NoFrame {
+    // The paper's number.
+    pub fn number(self) -> u32
+        ensures { result ≡ refusal (Err self) }
+    {
+        self as u32
+    }
+}
+
+impl From<readers::Misread> for NoFrame {
+    ghost from_gives = { λ why result. result ≡ unread why };
+
+    fn from(why: readers::Misread) -> NoFrame {
+        match why {
+            readers::Misread::Short => NoFrame::More,
+            readers::Misread::Wrong => NoFrame::NoMessage,
+        }
+    }
+}
+
+// The byte `b` at `at`: the position after it. As a text it would cost more tests.
+// Not by `get`: a reference in an Option is laid out for 64 bits (docs/DECISIONS.md, "Other processors").
+fn byte_at(s: &[u8], at: usize, b: u8) -> Result<usize, readers::Misread>
     ensures { result ≡ placed at (text_of (b ∷ []) (drop at s.now)) }
 {
     if s.len() <= at {
-        return readers::Place::Short;
+        return Err(readers::Misread::Short);
     }
     if s[at] != b {
-        return readers::Place::Wrong;
+        return Err(readers::Misread::Wrong);
     }
-    readers::Place::At(at + 1)
-}
-
-// A byte behind a number: a step that does nothing where the one before it found nothing, so that the steps need no
-// branches between them.
-fn byte_after(s: &[u8], n: digits::Scan, b: u8) -> readers::Place
-    ensures { result ≡ text_after s.now n (b ∷ []) }
-{
-    match n {
-        digits::Scan::Short => readers::Place::Short,
-        digits::Scan::Wrong => readers::Place::Wrong,
-        digits::Scan::Got(_, at) => byte_at(s, at, b),
-    }
-}
-
-// A number behind a text, likewise.
-fn number_after(s: &[u8], p: readers::Place, max: usize) -> digits::Scan
-    ensures { result ≡ number_after s.now p max }
-{
-    match p {
-        readers::Place::Short => digits::Scan::Short,
-        readers::Place::Wrong => digits::Scan::Wrong,
-        readers::Place::At(at) => digits::number(s, at, max),
-    }
-}
-
-fn value(n: digits::Scan) -> u64
-    ensures { result ≡ value_of n }
-{
-    match n {
-        digits::Scan::Short => 0,
-        digits::Scan::Wrong => 0,
-        digits::Scan::Got(v, _) => v,
-    }
+    Ok(at + 1)
 }
 
 // The opening at the front of `s`. It looks at 31 bytes at most (proofs/Theorems/FirstBytes).
-pub fn read_opening(s: &[u8]) -> Front
+#[tactic(auto, using(crate::proofs::Stepping::by_steps))]
+pub fn read_opening(s: &[u8]) -> Result<Front, readers::Misread>
     ensures { result ≡ front_of (opening s.now) }
 {
-    let mrcp = readers::text(s, 0, b"MRCP/");
-    let major = number_after(s, mrcp, 2);
-    let dot = byte_after(s, major, b'.');
-    let minor = number_after(s, dot, 2);
-    let space = byte_after(s, minor, b' ');
-    let stated = number_after(s, space, 19);
-    let end = byte_after(s, stated, b' ');
-    match end {
-        readers::Place::Short => Front::Short,
-        readers::Place::Wrong => Front::Wrong,
-        readers::Place::At(k) => Front::Got(value(major), value(minor), value(stated), k),
-    }
+    let at = readers::text(s, 0, b"MRCP/")?;
+    let major = digits::number(s, at, 2)?;
+    let at = byte_at(s, major.next, b'.')?;
+    let minor = digits::number(s, at, 2)?;
+    let at = byte_at(s, minor.next, b' ')?;
+    let stated = digits::number(s, at, 19)?;
+    let length = byte_at(s, stated.next, b' ')?;
+    let opening = Opening {
+        major: major.value,
+        minor: minor.value,
+        stated: stated.value,
+    };
+    Ok(Front { opening, length })
 }
 
-// With an opening of `k` bytes, where `lent` bytes are there: 3, then 4, then 1. The numbers come singly: as a struct
-// they would go through memory.
-pub fn measure(major: u64, minor: u64, stated: u64, k: usize, lent: usize) -> Framing
-    ensures { result ≡ measured (record { major = major; minor = minor; stated = stated }) k lent }
+// With an opening, where `lent` bytes are there: 3, then 4, then 1.
+pub fn measure(front: Front, lent: usize) -> Result<Framed, NoFrame>
+    ensures { result ≡ measured front.opening front.length lent }
 {
+    let Opening {
+        major,
+        minor,
+        stated,
+    } = front.opening;
     if 16384 < stated {
-        return Framing::TooLong;
+        return Err(NoFrame::TooLong);
     }
-    let n = stated as usize;
-    if n < k {
-        return Framing::TooShort;
+    let length = stated as usize;
+    if length < front.length {
+        return Err(NoFrame::TooShort);
     }
-    if lent < n {
-        return Framing::More;
+    if lent < length {
+        return Err(NoFrame::More);
     }
-    Framing::Frame(major, minor, k, n)
+    Ok(Framed {
+        major,
+        minor,
+        opening: front.length,
+        length,
+    })
 }
 
 // Where the message at the front of `s` ends.
-pub fn frame(s: &[u8]) -> Framing
+#[tactic(auto, unfolding(crate::specs::Framing::framing))]
+pub fn frame(s: &[u8]) -> Result<Framed, NoFrame>
     ensures { result ≡ framing s.now }
 {
-    let front = read_opening(s);
-    match front {
-        Front::Short => Framing::More,
-        Front::Wrong => Framing::NoMessage,
-        Front::Got(major, minor, stated, k) => measure(major, minor, stated, k, s.len()),
-    }
+    measure(read_opening(s)?, s.len())
 }

@@ -6,10 +6,11 @@ use mathlib.Core.List.{List, [], ◌∷◌, ◌++◌, map}
 use Prim.Native.Nat.{ℕ, ◌+◌, ◌-◌, ◌<◌, ◌≤◌}
 use native.Mathlib.Omega.{arith}
 use lib.Bits.{bit_and, bit_or}
-use lib.Dec.{eqb, ltb, lit≤}
+use lib.Dec.{eqb, ltb}
 use lib.ListN.{length, get_or, drop, set, replicate, length-append}
 use borrow.Author.Tests.{ltb-true, ltb-false, not-true, not-false}
 use Rattle.lists.proofs.Tests.{both}
+use Rattle.std.specs.Prelude.{Option, Some, None}
 use Rattle.message.specs.Message as M
 use Rattle.message.specs.Message.{Fields, bad, good, part, on_field}
 use Rattle.message.specs.Fields as F
@@ -22,16 +23,16 @@ use Rattle.message.specs.declared.Known.TheVariants.{ContentLength}
 use Rattle.message.proofs.Rows.{Laid, laid}
 use Rattle.names.specs.Names.{bit_of, mask_with, names_in}
 use Rattle.header.specs.Header.{nowhere, values_in, header_of, kept_in, Kept}
-use Rattle.names.specs.Steps.{known_bit, may_come}
-use Rattle.header.specs.Steps.{bad_header, step_of, given_by, kept_at}
+use Rattle.names.specs.Steps.{known_bit}
+use Rattle.header.specs.Steps.{step_of, given_by, kept_at}
 use Rattle.fieldlines.specs.declared.Field.{Field}
 use Rattle.header.specs.declared.Step.{Step}
 use Rattle.header.specs.declared.Header.{Header}
 use Rattle.names.proofs.Marks.{mask_last, mask_test, once_last}
 use Rattle.header.proofs.Values.{as_field, given_value}
-use Rattle.header.proofs.Places.{kept_length, kept_all, kept_more}
+use Rattle.header.proofs.Places.{kept_length, kept_more}
 use Rattle.header.proofs.Gathering.{front, lines_malformed, lines_empty, lines_full, lines_field, lines_more}
-use Rattle.header.proofs.Stepping.{judged_step, line_end, Comes, line_field}
+use Rattle.header.proofs.Stepping.{Comes, Spoils, Steps, steps}
 use Rattle.header.proofs.Gathering.{names_append, judged_twice, judged_by_lem}
 
 -- the fields `so` are those of the lines from `at` to i, mask and values are those of their names, of which none that
@@ -48,26 +49,14 @@ pub record Onward (params : Bool) (f : List ℕ) (at : ℕ) (lent : List ℕ) (h
 
 -- the header so far
 abbrev pub so_far : ℕ → ℕ → List Span → Header
-so_far n mask values = record { good = true; count = n; mask = mask; body = nowhere; values = values }
+so_far n mask values = record { count = n; mask = mask; body = nowhere; values = values }
 
 -- what is promised of the header r and the lent numbers as they are left
-abbrev pub Answers : List ℕ → List ℕ → Header → List ℕ → Fields Span → Type 0
+abbrev pub Answers : List ℕ → List ℕ → Option Header → List ℕ → Fields Span → Type 0
 Answers f lent r places x = (r ≡ header_of f x) × Kept lent x places
 
-abbrev pub Reads : Bool → List ℕ → ℕ → List ℕ → Header → List ℕ → Type 0
+abbrev pub Reads : Bool → List ℕ → ℕ → List ℕ → Option Header → List ℕ → Type 0
 Reads params f at lent r places = Answers f lent r places (fields_from params f at)
-
-pub outset : (params : Bool) (f : List ℕ) (at : ℕ) (lent : List ℕ) → Onward params f at lent (so_far 0 0 (replicate 16 nowhere)) lent at
-outset params f at lent = record {
-  so = [];
-  counted = refl;
-  few = lit≤ tt;
-  all = refl;
-  once = refl;
-  bits = refl;
-  values = refl;
-  kept = sym (kept_all lent [] (omega arith));
-}
 
 values_last : (f : List ℕ) (fs : List (M.Field Span)) (x : M.Field Span) (w : List Span)
     → values_in f (fs ++ x ∷ []) w ≡ set (values_in f fs w) (index_of (known_of (part f x.name))) x.value
@@ -82,9 +71,9 @@ module _ {params : Bool} {f : List ℕ} {at : ℕ} {lent : List ℕ} {h : Header
   pub places_size : length places ≡ length lent
   places_size = ap length o.kept ∙ kept_length lent so
 
-  answer : (t : Lines) → field_lines 32 f at ≡ t → judged params f t ≡ bad → Reads params f at lent bad_header places
+  answer : (t : Lines) → field_lines 32 f at ≡ t → judged params f t ≡ bad → Reads params f at lent None places
   unfolding fields_from
-  answer t e z = subst (Answers f lent bad_header places) (sym z ∙ ap (judged params f) (sym e)) (refl, places_size)
+  answer t e z = subst (Answers f lent None places) (sym z ∙ ap (judged params f) (sym e)) (refl, places_size)
 
   by_bit : (k : Known) (t : Bool) → eqb (bit_and h.mask (known_bit params k)) 0 ≡ t
       → not (is_known params k && among k (names_in f so)) ≡ t
@@ -92,7 +81,7 @@ module _ {params : Bool} {f : List ℕ} {at : ℕ} {lent : List ℕ} {h : Header
 
   -- a line that fails judgement 2: it is malformed, or a field too many, or its known name came already
   bad_twice : (x : M.Field Span) (next : ℕ) → field_line i (drop i f) ≡ field x next → h.count < 32
-      → eqb (bit_and h.mask (known_bit params (known_of (part f x.name)))) 0 ≡ false → Reads params f at lent bad_header places
+      → eqb (bit_and h.mask (known_bit params (known_of (part f x.name)))) 0 ≡ false → Reads params f at lent None places
   bad_twice x next q l z =
       let k = known_of (part f x.name) in
       let came = not-false (is_known params k && among k (names_in f so)) (by_bit k false z) in
@@ -101,35 +90,34 @@ module _ {params : Bool} {f : List ℕ} {at : ℕ} {lent : List ℕ} {h : Header
 
   bad_come : (x : M.Field Span) (next : ℕ) → field_line i (drop i f) ≡ field x next → (t : Bool) → ltb h.count 32 ≡ t
       → (t && eqb (bit_and h.mask (known_bit params (known_of (part f x.name)))) 0) ≡ false
-      → Reads params f at lent bad_header places
+      → Reads params f at lent None places
   bad_come x next q true l m = bad_twice x next q (ltb-true h.count 32 l) m
   bad_come x next q false l m =
       answer Lines.malformed
       (o.all ∙ lines_full f i x next q so (32 - h.count) (omega (arith, ltb-false h.count 32 l))) refl
 
-  bad_line : (l : F.Line) → field_line i (drop i f) ≡ l → step_of params h.count h.mask f l ≡ Step.Bad
-      → Reads params f at lent bad_header places
+  bad_line : (l : F.Line) → field_line i (drop i f) ≡ l → Spoils params h.count h.mask f l
+      → Reads params f at lent None places
   bad_line F.Line.malformed q e = answer Lines.malformed (o.all ∙ lines_malformed f i so (32 - h.count) q) refl
-  bad_line (empty b) q e = let d : ◌≡◌ {A = ℕ} 0 1 = cc in absurd (omega arith)
-  bad_line (field x next) q e = go (may_come params h.count h.mask (known_of (part f x.name))) refl e
-    where
-      go : (t : Bool) → may_come params h.count h.mask (known_of (part f x.name)) ≡ t
-          → judged_step params h.count h.mask f x next t ≡ Step.Bad
-          → Reads params f at lent bad_header places
-      go true m e = let d : ◌≡◌ {A = ℕ} 0 1 = cc in absurd (omega arith)
-      go false m e = bad_come x next q (ltb h.count 32) refl m
+  bad_line (empty b) q e = absurd e
+  bad_line (field x next) q e = bad_come x next q (ltb h.count 32) refl e
 
-  module _ (r : Step) (e : r ≡ step_of params h.count h.mask f (field_line i (drop i f))) where
-    pub bad_step : r ≡ Step.Bad → Reads params f at lent bad_header places
-    bad_step q = bad_line (field_line i (drop i f)) refl (sym e ∙ q)
+  module _ (r : Option Step) (e : r ≡ step_of params h.count h.mask f (field_line i (drop i f))) where
+    by_step : (s : Option Step) → r ≡ s → Steps params h.count h.mask f (field_line i (drop i f)) s
+    by_step s q =
+        subst (Steps params h.count h.mask f (field_line i (drop i f))) (sym e ∙ q)
+        (steps params h.count h.mask f (field_line i (drop i f)))
 
-    module _ (x : Field) (k : Known) (next : ℕ) (q : r ≡ Step.Field x k next) where
+    pub bad_step : r ≡ None → Reads params f at lent None places
+    bad_step q = bad_line (field_line i (drop i f)) refl (by_step None q)
+
+    module _ (x : Field) (k : Known) (next : ℕ) (q : r ≡ Some (Step.Field x k next)) where
       comes : Comes params h.count h.mask f (field_line i (drop i f)) x k next
-      comes = line_field params h.count h.mask f (field_line i (drop i f)) x k next (sym e ∙ q)
+      comes = by_step (Some (Step.Field x k next)) q
 
       pub has_room : h.count < 32
       has_room = ltb-true h.count 32
-          (both (ltb h.count 32) (eqb (bit_and h.mask (known_bit params k)) 0) (sym comes.may)).0
+          (both (ltb h.count 32) (eqb (bit_and h.mask (known_bit params k)) 0) comes.may).0
 
       pub step_on : (b : ℕ) → b ≡ bit_of k → (j : ℕ) → j ≡ index_of k → (out : List ℕ) → out ≡ kept_at h.count x places
           → Onward params f at lent (so_far (h.count + 1) (bit_or h.mask b) (set h.values j x.value)) out next
@@ -137,7 +125,7 @@ module _ {params : Bool} {f : List ℕ} {at : ℕ} {lent : List ℕ} {h : Header
           let more : List (M.Field Span) = so ++ as_field x ∷ [] in
           let names : names_in f more ≡ names_in f so ++ k ∷ [] =
           names_append f so (as_field x) [] ∙ ap (λ k. names_in f so ++ k ∷ []) (sym comes.with_name) in
-          let clear = (both (ltb h.count 32) (eqb (bit_and h.mask (known_bit params k)) 0) (sym comes.may)).1 in
+          let clear = (both (ltb h.count 32) (eqb (bit_and h.mask (known_bit params k)) 0) comes.may).1 in
           let fresh = not-true (is_known params k && among k (names_in f so)) (by_bit k true clear) in
           let left : 32 - h.count - 1 ≡ 32 - (h.count + 1) = omega arith in
           record {
@@ -153,10 +141,9 @@ module _ {params : Bool} {f : List ℕ} {at : ℕ} {lent : List ℕ} {h : Header
             kept = eo ∙ ap₂ (λ (n : ℕ) (out : List ℕ). kept_at n x out) o.counted o.kept ∙ kept_more lent so x;
           }
 
-    module _ (b : ℕ) (q : r ≡ Step.End b) where
+    module _ (b : ℕ) (q : r ≡ Some (Step.End b)) where
       ended : field_lines 32 f at ≡ lines so b
-      ended = o.all ∙ lines_empty f i so (32 - h.count) b
-          (line_end params h.count h.mask f (field_line i (drop i f)) b (sym e ∙ q))
+      ended = o.all ∙ lines_empty f i so (32 - h.count) b (by_step (Some (Step.End b)) q)
 
       pub body_inside : b ≤ length f
       body_inside = (subst (Laid 32 at (length f)) ended (laid 32 f at)).1
@@ -170,14 +157,14 @@ module _ {params : Bool} {f : List ℕ} {at : ℕ} {lent : List ℕ} {h : Header
       given_value f ContentLength params refl so o.once
       ∙ (λ z. given_by (sym o.bits z) 2 (part f (get_or (sym o.values z) 1 nowhere)))
 
-  module _ (r : Step) (e : r ≡ step_of params h.count h.mask f (field_line i (drop i f))) (b : ℕ)
-      (q : r ≡ Step.End b) where
+  module _ (r : Option Step) (e : r ≡ step_of params h.count h.mask f (field_line i (drop i f))) (b : ℕ)
+      (q : r ≡ Some (Step.End b)) where
     abbrev body : Span
     body = record { start = b; len = length f - b }
 
     -- the header, with this body
-    abbrev pub told : Header
-    told = record { good = true; count = h.count; mask = h.mask; body = body; values = h.values }
+    abbrev pub told : Option Header
+    told = Some (record { count = h.count; mask = h.mask; body = body; values = h.values })
 
     abbrev judged_by : Bool → Fields Span
     judged_by t = elim t [ true ↦ good so body | false ↦ bad ]
@@ -188,12 +175,12 @@ module _ {params : Bool} {f : List ℕ} {at : ℕ} {lent : List ℕ} {h : Header
         sym (judged_by_lem params f so b o.once t (ap (λ v. agrees v (length f - b)) given_length ∙ sym m))
         ∙ ap (judged params f) (sym (ended r e b q))
 
-    pub bad_length : false ≡ agrees (given_by h.mask 2 stated) (length f - b) → Reads params f at lent bad_header places
-    bad_length m = subst (Answers f lent bad_header places) (by_length false m) (refl, places_size)
+    pub bad_length : false ≡ agrees (given_by h.mask 2 stated) (length f - b) → Reads params f at lent None places
+    bad_length m = subst (Answers f lent None places) (by_length false m) (refl, places_size)
 
     pub good_length : true ≡ agrees (given_by h.mask 2 stated) (length f - b)
         → Reads params f at lent told places
     good_length m = subst (Answers f lent _ places) (by_length true m) (same, o.kept)
       where
         same : told ≡ header_of f (good so body)
-        same = λ z. record { good = true; count = o.counted z; mask = o.bits z; body = body; values = o.values z }
+        same = λ z. Some (record { count = o.counted z; mask = o.bits z; body = body; values = o.values z })

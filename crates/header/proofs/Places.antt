@@ -3,30 +3,18 @@
 use mathlib.Core.Path.{◌≡◌, refl, sym, ap, ap₂, ◌∙◌}
 use mathlib.Core.Bool.{Bool, true, false}
 use mathlib.Core.List.{List, [], ◌∷◌, ◌++◌}
-use Prim.Native.Nat.{ℕ, ◌+◌, ◌*◌, ◌/◌, ◌≤◌, ◌<◌}
+use Prim.Native.Nat.{ℕ, ◌+◌, ◌*◌, ◌/◌, ◌≤◌}
 use native.Mathlib.Omega.{arith}
 use lib.Dec.{ltb}
-use lib.ListN.{length, take, drop, set, length-append, length-take, length-drop}
+use lib.ListN.{length, take, drop, length-append, length-take, length-drop}
 use lib.Seq.{take_all, take-append_seam, take-append-le, drop-append-add, drop-drop}
-use borrow.Author.Tests.{lt-ltb, le-ltb, ltb-true, ltb-false}
+use borrow.Author.Tests.{ltb-true, ltb-false}
 use Rattle.message.specs.Message as M
 use Rattle.message.specs.declared.Span.{Span}
 use Rattle.fieldlines.specs.declared.Field.{Field}
 use Rattle.header.specs.Header.{field_numbers, fitting, kept_in}
 use Rattle.header.specs.Steps.{kept_at}
 use Rattle.header.proofs.Values.{as_field}
-use Rattle.header.proofs.Four.{four}
-
--- a field that does not fit, and one that does
-module _ (j : ℕ) (x : Field) (out : List ℕ) where
-  pub kept_not : length out < 4 * j + 4 → out ≡ kept_at j x out
-  kept_not h = rw (lt-ltb (length out) (4 * j + 4) h, kept_at)
-
-  pub kept_four : 4 * j + 4 ≤ length out
-      → set (set (set (set out (4 * j) x.name.start) (4 * j + 1) x.name.len) (4 * j + 2) x.value.start)
-      (4 * j + 3) x.value.len ≡ kept_at j x out
-  kept_four h = rw (le-ltb (length out) (4 * j + 4) h, kept_at)
-      (four out (4 * j) x.name.start x.name.len x.value.start x.value.len h)
 
 pub numbers_length : (fs : List (M.Field Span)) → length (field_numbers fs) ≡ 4 * length fs
 numbers_length [] = refl

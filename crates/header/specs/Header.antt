@@ -1,5 +1,6 @@
 -- The fields that the code hands back, in the terms of document 01.
-use Rattle.std.specs.Prelude.{ℕ, ◌*◌, ◌/◌, ◌≡◌, true, false, List, [], ◌∷◌, ◌++◌, length, take, drop, set, replicate}
+use Rattle.std.specs.Prelude.{ℕ, ◌*◌, ◌/◌, ◌≡◌, List, [], ◌∷◌, ◌++◌, length, take, drop, set, replicate}
+use Rattle.std.specs.Prelude.{Option, Some, None}
 use Rattle.message.specs.Message.{Field, Fields, bad, good, part}
 use Rattle.message.specs.Known.{known_of, index_of}
 use Rattle.message.specs.declared.Span.{Span}
@@ -14,16 +15,19 @@ abbrev pub values_in : List ℕ → List (Field Span) → List Span → List Spa
 values_in f [] values = values
 values_in f (x ∷ fs) values = values_in f fs (set values (index_of (known_of (part f x.name))) x.value)
 
--- the whole answer of the code
-abbrev pub header_of : List ℕ → Fields Span → Header
-header_of f bad = record { good = false; count = 0; mask = 0; body = nowhere; values = replicate 16 nowhere }
-header_of f (good fs body) = record {
-  good = true;
+-- the header of good fields
+abbrev pub header_in : List ℕ → List (Field Span) → Span → Header
+header_in f fs body = record {
   count = length fs;
   mask = mask_with 0 (names_in f fs);
   body = body;
   values = values_in f fs (replicate 16 nowhere);
 }
+
+-- the whole answer of the code: none where judgement 2 fails
+abbrev pub header_of : List ℕ → Fields Span → Option Header
+header_of f bad = None
+header_of f (good fs body) = Some (header_in f fs body)
 
 -- start and length of each name and each value
 abbrev pub field_numbers : List (Field Span) → List ℕ

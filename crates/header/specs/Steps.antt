@@ -1,38 +1,34 @@
 -- What the steps of reading a header find, in the types of the code.
 use Rattle.std.specs.Prelude.{ℕ, ◌+◌, ◌*◌, Bool, true, false, List, [], ◌∷◌, ◌++◌, eqb, ltb, length, take, drop}
-use Rattle.std.proofs.Math.Option.{Option, none, some}
+use Rattle.std.specs.Prelude.{Option, Some, None}
+use Rattle.std.proofs.Math.Option as Math
+use Rattle.std.proofs.Math.Option.{none, some}
 use Rattle.std.specs.Int.Bits.{bit_and}
 use Rattle.readers.specs.Words.{is_number, number_of}
-use Rattle.message.specs.Message.{bad, part}
+use Rattle.message.specs.Message.{part}
 use Rattle.message.specs.Fields as F
 use Rattle.message.specs.Fields.{empty, field}
 use Rattle.message.specs.Known.{known_of}
 use Rattle.names.specs.Steps.{may_come}
 use Rattle.fieldlines.specs.Steps.{field_of}
 use Rattle.fieldlines.specs.declared.Field.{Field}
-use Rattle.header.specs.Header.{header_of}
-use Rattle.header.specs.declared.Header.{Header}
 use Rattle.header.specs.declared.Step.{Step}
-use Rattle.header.specs.declared.Stated.{Stated}
 
-abbrev pub bad_header : Header
-bad_header = header_of [] bad
-
--- a line of f, judged after n fields with the names in `mask`
-abbrev pub step_of : Bool → ℕ → ℕ → List ℕ → F.Line → Step
-step_of params n mask f F.Line.malformed = Step.Bad
-step_of params n mask f (empty next) = Step.End next
+-- a line of f, judged after n fields with the names in `mask`: none where it fails judgement 2
+abbrev pub step_of : Bool → ℕ → ℕ → List ℕ → F.Line → Option Step
+step_of params n mask f F.Line.malformed = None
+step_of params n mask f (empty next) = Some (Step.End next)
 step_of params n mask f (field x next) = elim (may_come params n mask (known_of (part f x.name))) [
-  | true ↦ Step.Field (field_of x) (known_of (part f x.name)) next
-  | false ↦ Step.Bad
+  | true ↦ Some (Step.Field (field_of x) (known_of (part f x.name)) next)
+  | false ↦ None
 ]
 
 -- the number that v writes, where it is 1 to 19 digits
-abbrev pub stated_of : List ℕ → Stated
-stated_of v = elim (is_number 19 v) [ true ↦ Stated.Number (number_of v) | false ↦ Stated.None ]
+abbrev pub stated_of : List ℕ → Option ℕ
+stated_of v = elim (is_number 19 v) [ true ↦ Some (number_of v) | false ↦ None ]
 
 -- the value v of the name with that bit, where it came
-abbrev pub given_by : ℕ → ℕ → List ℕ → Option (List ℕ)
+abbrev pub given_by : ℕ → ℕ → List ℕ → Math.Option (List ℕ)
 given_by mask b v = elim (eqb (bit_and mask b) 0) [ true ↦ none | false ↦ some v ]
 
 -- the numbers of the field j, where they fit

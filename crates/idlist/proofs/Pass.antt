@@ -11,10 +11,10 @@ use lib.Bits.{bit_or}
 use lib.Dec.{eqb, leb, lit≤}
 use lib.ListN.{length, take, drop, get_or, length-append, length-drop, drop_of_length-le}
 use lib.Seq.{drop-drop, get_or-drop}
-use borrow.Author.Tests.{eqb-true, eqb-false, eq-eqb, ne_eqb, leb-true, le-leb, lt-leb}
+use borrow.Author.Tests.{eqb-true, eqb-false, eq-eqb, ne_eqb, le-leb, lt-leb}
 use Rattle.lists.specs.Lists.{all, run}
 use Rattle.lists.proofs.Scans.{all_append}
-use Rattle.lists.proofs.Tests.{both, choose}
+use Rattle.lists.proofs.Tests.{choose}
 use Rattle.octets.specs.Octets.{is_digit}
 use Rattle.readers.specs.Words.{words, onto, decimal, number_of, is_request_id}
 use Rattle.readers.proofs.Positions.{apart, here}
@@ -24,8 +24,7 @@ use Rattle.digits.specs.declared.Digits.{Digits}
 use Rattle.digits.proofs.Numerals.{counts, writes, room as digits_room, one_too_many}
 use Rattle.answer.specs.IdList.{is_id_list, ids_of}
 use Rattle.idlist.specs.Named.{bits_from, in_range, named_in}
-use Rattle.idlist.specs.declared.Which.{Which}
-use Rattle.idlist.specs.declared.Which.TheVariants.{Illegal, Those}
+use Rattle.std.proofs.Common.{Option, Some, None}
 use Rattle.idlist.proofs.Marks.{none_named, or_bits}
 
 -- ---- when a word is an id
@@ -56,40 +55,40 @@ whole_word w a h = rw (a, le-leb (length w) 10 h) (go (leb 1 (length w)))
 
 module _ (ids : List ℕ) where
   -- the places of those listed
-  abbrev found : List ℕ → ℕ
+  abbrev pub found : List ℕ → ℕ
   found l = bits_from 0 l (take 64 ids)
 
   -- what is left of the pass: bits found so far, value and count of the digits since the last comma, bytes left
-  abbrev left : ℕ → ℕ → ℕ → List ℕ → Which
-  left bits value count [] = elim (in_range value count) [ true ↦ Those (bit_or bits (found (value ∷ []))) | false ↦ Illegal ]
+  abbrev left : ℕ → ℕ → ℕ → List ℕ → Option ℕ
+  left bits value count [] = elim (in_range value count) [ true ↦ Some (bit_or bits (found (value ∷ []))) | false ↦ None ]
   left bits value count (x ∷ s) = elim (eqb x 44) [
-    | true ↦ elim (in_range value count) [ true ↦ left (bit_or bits (found (value ∷ []))) 0 0 s | false ↦ Illegal ]
+    | true ↦ elim (in_range value count) [ true ↦ left (bit_or bits (found (value ∷ []))) 0 0 s | false ↦ None ]
     | false ↦ elim (is_digit x) [
-      | true ↦ elim (eqb count 10) [ true ↦ Illegal | false ↦ left bits (value * 10 + (x - 48)) (count + 1) s ]
-      | false ↦ Illegal
+      | true ↦ elim (eqb count 10) [ true ↦ None | false ↦ left bits (value * 10 + (x - 48)) (count + 1) s ]
+      | false ↦ None
     ]
   ]
 
   -- what the words say, where the ids of l were found before them
-  abbrev outcome : List ℕ → List (List ℕ) → Which
-  outcome l ws = elim (all is_request_id ws) [ true ↦ Those (found (l ++ map number_of ws)) | false ↦ Illegal ]
+  abbrev outcome : List ℕ → List (List ℕ) → Option ℕ
+  outcome l ws = elim (all is_request_id ws) [ true ↦ Some (found (l ++ map number_of ws)) | false ↦ None ]
 
-  wrong : (l : List ℕ) (ws : List (List ℕ)) → all is_request_id ws ≡ false → Illegal ≡ outcome l ws
+  wrong : (l : List ℕ) (ws : List (List ℕ)) → all is_request_id ws ≡ false → None ≡ outcome l ws
   wrong l ws e = rw (e, outcome)
 
   last : (l w : List ℕ) (c : Bool) → is_request_id w ≡ c
-      → elim c [ true ↦ Those (bit_or (found l) (found (number_of w ∷ []))) | false ↦ Illegal ] ≡ outcome l (w ∷ [])
-  last l w true e = rw (e, outcome) (ap Those (or_bits l (number_of w ∷ []) (take 64 ids)))
+      → elim c [ true ↦ Some (bit_or (found l) (found (number_of w ∷ []))) | false ↦ None ] ≡ outcome l (w ∷ [])
+  last l w true e = rw (e, outcome) (ap Some (or_bits l (number_of w ∷ []) (take 64 ids)))
   last l w false e = rw (e, outcome)
 
   word : (l w : List ℕ) (ws : List (List ℕ)) → is_request_id w ≡ true → outcome (l ++ number_of w ∷ []) ws ≡ outcome l (w ∷ ws)
   word l w ws e =
-      ap (λ m. elim (all is_request_id ws) [ true ↦ Those (found m) | false ↦ Illegal ]) (append_assoc l (number_of w ∷ []) (map number_of ws))
+      ap (λ m. elim (all is_request_id ws) [ true ↦ Some (found m) | false ↦ None ]) (append_assoc l (number_of w ∷ []) (map number_of ws))
       ∙ rw (e, outcome)
 
   comma : (l w s : List ℕ) (c : Bool) → is_request_id w ≡ c
       → left (found (l ++ number_of w ∷ [])) 0 0 s ≡ outcome (l ++ number_of w ∷ []) (begun [] (words 44 s))
-      → elim c [ true ↦ left (bit_or (found l) (found (number_of w ∷ []))) 0 0 s | false ↦ Illegal ] ≡ outcome l (w ∷ words 44 s)
+      → elim c [ true ↦ left (bit_or (found l) (found (number_of w ∷ []))) 0 0 s | false ↦ None ] ≡ outcome l (w ∷ words 44 s)
   comma l w s true e more =
       ap (λ b. left b 0 0 s) (or_bits l (number_of w ∷ []) (take 64 ids))
       ∙ more
@@ -98,14 +97,14 @@ module _ (ids : List ℕ) where
   comma l w s false e more = wrong l (w ∷ words 44 s) (rw e)
 
   -- what a digit more gives, and what it has to give
-  abbrev goes_on_lem : List ℕ → List ℕ → List ℕ → ℕ → Which
+  abbrev goes_on_lem : List ℕ → List ℕ → List ℕ → ℕ → Option ℕ
   goes_on_lem l w s x = left (found l) (number_of w * 10 + (x - 48)) (length w + 1) s
 
-  abbrev due : List ℕ → List ℕ → List ℕ → ℕ → Which
+  abbrev due : List ℕ → List ℕ → List ℕ → ℕ → Option ℕ
   due l w s x = outcome l (begun (w ++ x ∷ []) (words 44 s))
 
   full : (l w s : List ℕ) (x : ℕ) (c : Bool) → eqb (length w) 10 ≡ c → (length w ≢ 10 → goes_on_lem l w s x ≡ due l w s x)
-      → elim c [ true ↦ Illegal | false ↦ goes_on_lem l w s x ] ≡ due l w s x
+      → elim c [ true ↦ None | false ↦ goes_on_lem l w s x ] ≡ due l w s x
   full l w s x true e more =
       let ten : length w ≡ 10 = eqb-true (length w) 10 e in
       wrong l (begun (w ++ x ∷ []) (words 44 s))
@@ -113,7 +112,7 @@ module _ (ids : List ℕ) where
   full l w s x false e more = more (eqb-false (length w) 10 e)
 
   other : (l w s : List ℕ) (x : ℕ) (d : Bool) → is_digit x ≡ d → (length w ≢ 10 → is_digit x ≡ true → goes_on_lem l w s x ≡ due l w s x)
-      → elim d [ true ↦ elim (eqb (length w) 10) [ true ↦ Illegal | false ↦ goes_on_lem l w s x ] | false ↦ Illegal ] ≡ due l w s x
+      → elim d [ true ↦ elim (eqb (length w) 10) [ true ↦ None | false ↦ goes_on_lem l w s x ] | false ↦ None ] ≡ due l w s x
   other l w s x true e more = full l w s x (eqb (length w) 10) refl (λ k. more k e)
   other l w s x false e more =
       wrong l (begun (w ++ x ∷ []) (words 44 s)) (first_wrong (w ++ x ∷ []) (words 44 s) (λ u. no_id w u x e))
@@ -135,9 +134,9 @@ module _ (ids : List ℕ) where
           → elim b [
             | true ↦ elim (in_range (number_of w) (length w)) [
               | true ↦ left (bit_or (found l) (found (number_of w ∷ []))) 0 0 s
-              | false ↦ Illegal
+              | false ↦ None
             ]
-            | false ↦ elim (is_digit x) [ true ↦ elim (eqb (length w) 10) [ true ↦ Illegal | false ↦ goes_on_lem l w s x ] | false ↦ Illegal ]
+            | false ↦ elim (is_digit x) [ true ↦ elim (eqb (length w) 10) [ true ↦ None | false ↦ goes_on_lem l w s x ] | false ↦ None ]
           ] ≡ outcome l (begun w (elim b [ true ↦ [] ∷ words 44 s | false ↦ onto x (words 44 s) ]))
       go true more next =
           comma l w s (in_range (number_of w) (length w)) (whole_word w a h) more
@@ -153,7 +152,7 @@ module _ (ids : List ℕ) where
 
 module _ (ids : List ℕ) (bits : ℕ) where
   -- what is left behind k bytes that are digits
-  abbrev past : ℕ → ℕ → List ℕ → ℕ → Which
+  abbrev past : ℕ → ℕ → List ℕ → ℕ → Option ℕ
   past value count s k = left ids bits (decimal value (take k s)) (count + k) (drop k s)
 
   one_digit : (value count x : ℕ) (s : List ℕ) → is_digit x ≡ true → count ≢ 10
@@ -179,17 +178,17 @@ module _ (ids : List ℕ) (bits : ℕ) where
   -- behind the digits of a word that is no id, nothing makes it one; nor does anything but a comma end one
   module _ (value count : ℕ) where
     no_id_left : (s : List ℕ) → in_range value count ≡ false → (is_digit (get_or s 0 0) ≡ true → count ≡ 10)
-        → left ids bits value count s ≡ Illegal
+        → left ids bits value count s ≡ None
     no_id_left [] q full = rw (q, left)
     no_id_left (x ∷ s) q full =
-        choose (λ w. w ≡ Illegal) (eqb x 44) (λ e. rw q) (λ e.
-        choose (λ w. w ≡ Illegal) (is_digit x) (λ d. rw (eq-eqb count 10 (full d))) (λ d. refl))
+        choose (λ w. w ≡ None) (eqb x 44) (λ e. rw q) (λ e.
+        choose (λ w. w ≡ None) (is_digit x) (λ d. rw (eq-eqb count 10 (full d))) (λ d. refl))
 
     no_comma_left : (x : ℕ) (s : List ℕ) → x ≢ 44 → (is_digit x ≡ true → count ≡ 10)
-        → left ids bits value count (x ∷ s) ≡ Illegal
+        → left ids bits value count (x ∷ s) ≡ None
     no_comma_left x s c full =
-        choose (λ w. w ≡ Illegal) (eqb x 44) (λ e. absurd (c (eqb-true x 44 e))) (λ e.
-        choose (λ w. w ≡ Illegal) (is_digit x) (λ d. rw (eq-eqb count 10 (full d))) (λ d. refl))
+        choose (λ w. w ≡ None) (eqb x 44) (λ e. absurd (c (eqb-true x 44 e))) (λ e.
+        choose (λ w. w ≡ None) (is_digit x) (λ d. rw (eq-eqb count 10 (full d))) (λ d. refl))
 
 -- ---- each way that the code goes
 
@@ -222,30 +221,23 @@ module _ {ids v : List ℕ} {bits i : ℕ} (m : Midway ids v bits i) (d : Digits
   pub room : i ≤ length v → end ≤ length v
   room h = omega (arith, digits_room 10 (lit≤ tt) (drop i v) d e, length-drop i v)
 
-  pub no_comma : end < length v → get_or v end 0 ≢ 44 → Illegal ≡ named_in v ids
+  pub no_comma : end < length v → get_or v end 0 ≢ 44 → None ≡ named_in v ids
   no_comma h c =
       sym (no_comma_left ids bits d.value d.count (get_or v end 0) (drop (end + 1) v) c tenth)
       ∙ ap (left ids bits d.value d.count) (sym (here v end h))
       ∙ behind
 
-  module _ {r : Bool} (q : r ≡ in_range d.value d.count) where
-    pub wrong_id : r ≡ false → Illegal ≡ named_in v ids
-    wrong_id n =
-        sym (no_id_left ids bits d.value d.count (drop end v) (sym q ∙ n)
-        (λ h. tenth (ap is_digit (ap (λ k. get_or v k 0) (sym (add-zero end)) ∙ sym (get_or-drop end v 0 0)) ∙ h)))
-        ∙ behind
+  pub wrong_id : in_range d.value d.count ≡ false → None ≡ named_in v ids
+  wrong_id n =
+      sym (no_id_left ids bits d.value d.count (drop end v) n
+      (λ h. tenth (ap is_digit (ap (λ k. get_or v k 0) (sym (add-zero end)) ∙ sym (get_or-drop end v 0 0)) ∙ h)))
+      ∙ behind
 
-    module _ (n : r ≡ true) where
-      pub in_range_lem : d.value ≤ 4294967295
-      in_range_lem =
-          let (some, least) = both (leb 1 d.count) (leb d.value 4294967295) (sym q ∙ n) in
-          leb-true d.value 4294967295 least
+  module _ (n : in_range d.value d.count ≡ true) {p : ℕ} (there : p ≡ found ids (d.value ∷ [])) where
+    pub last_id : length v ≤ end → Some (bit_or bits p) ≡ named_in v ids
+    last_id h = rw (there, ← behind, drop_of_length-le v h, n, left)
 
-      module _ {p : ℕ} (there : p ≡ found ids (d.value ∷ [])) where
-        pub last_id : length v ≤ end → Those (bit_or bits p) ≡ named_in v ids
-        last_id h = rw (there, ← behind, drop_of_length-le v h, ← q, n, left)
-
-        pub next_id : end < length v → get_or v end 0 ≡ 44 → Midway ids v (bit_or bits p) (end + 1)
-        next_id h c =
-            let comma = eq-eqb (get_or v end 0) 44 c in
-            record { same = rw (there, ← behind, here v end h, comma, ← q, n, left) }
+    pub next_id : end < length v → get_or v end 0 ≡ 44 → Midway ids v (bit_or bits p) (end + 1)
+    next_id h c =
+        let comma = eq-eqb (get_or v end 0) 44 c in
+        record { same = rw (there, ← behind, here v end h, comma, n, left) }

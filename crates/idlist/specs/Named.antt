@@ -1,8 +1,7 @@
 -- Which of some ids a list names.
-use Rattle.std.specs.Prelude.{ℕ, suc, ◌+◌, ◌^◌, Bool, true, false, ◌&&◌, List, [], ◌∷◌, leb, take}
+use Rattle.std.specs.Prelude.{ℕ, suc, ◌+◌, ◌^◌, Bool, true, false, ◌&&◌, List, [], ◌∷◌, leb, take, Option, Some, None}
 use Rattle.lists.specs.Lists.{elem}
 use Rattle.answer.specs.IdList.{is_id_list, ids_of}
-use Rattle.idlist.specs.declared.Which.{Which}
 
 abbrev pub bit_where : Bool → ℕ → ℕ
 bit_where true j = 2 ^ j
@@ -17,5 +16,5 @@ bits_from j listed (id ∷ ids) = bit_where (elem id listed) j + bits_from (suc 
 abbrev pub in_range : ℕ → ℕ → Bool
 in_range value count = leb 1 count && leb value 4294967295
 
-unfoldable pub named_in : List ℕ → List ℕ → Which
-named_in v ids = elim (is_id_list v) [ true ↦ Which.Those (bits_from 0 (ids_of v) (take 64 ids)) | false ↦ Which.Illegal ]
+unfoldable pub named_in : List ℕ → List ℕ → Option ℕ
+named_in v ids = elim (is_id_list v) [ true ↦ Some (bits_from 0 (ids_of v) (take 64 ids)) | false ↦ None ]

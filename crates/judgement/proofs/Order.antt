@@ -16,7 +16,7 @@ use Rattle.synth.specs.Request.{Request, is_good, acting}
 use Rattle.synth.specs.Judgement.{Verdict, passes, fails, ◌then◌, unless, version, well_formed, addressed, ours, above, early, late}
 use Rattle.synth.specs.States as S
 use Rattle.synth.specs.declared.Method.{Method}
-use Rattle.synth.specs.declared.LastId.TheVariants.{Seen}
+use Rattle.std.proofs.Common.{Some}
 use Rattle.synth.proofs.Theorems.ValuesJudgedAlike.{name_alike}
 use Rattle.channelnames.proofs.Fits.{name_fits_lem}
 use Rattle.header.specs.declared.Header.{Header}
@@ -84,7 +84,7 @@ module _ (v : View) (major minor : ℕ) (m : Method) (id : ℕ) (fs : Fields (Li
   pub early_fails : (status : ℕ) → fails status ≡ rest → S.after_early rest v r ≡ S.failed v r status
   early_fails status e = ap (λ (x : Verdict). S.after_early x v r) (sym e)
 
-  pub early_passes : passes ≡ rest → S.after_early rest v r ≡ (let seen : View = with_last (Seen id) v in S.after_late (late seen r) seen r)
+  pub early_passes : passes ≡ rest → S.after_early rest v r ≡ (let seen : View = with_last (Some id) v in S.after_late (late seen r) seen r)
   early_passes e = ap (λ (x : Verdict). S.after_early x v r) (sym e)
 
 -- an answer alone says and leaves what it did before it was one

@@ -8,71 +8,73 @@ ghost use Rattle.message.specs.Message.{Fields, request as request_line, part, o
 ghost use Rattle.message.specs.Folds.{joined};
 ghost use Rattle.message.specs.Reading.{asks_params, fields_from};
 ghost use Rattle.message.specs.declared.Known.TheVariants.{ChannelIdentifier};
+ghost use Rattle.message.specs.declared.RequestState.TheVariants.{Complete};
 ghost use Rattle.synth.specs.Kinds.{kind_of, method_in};
 ghost use Rattle.synth.specs.Channel.{well_named};
 ghost use Rattle.synth.specs.Settings.{is_edition_of, newest};
-ghost use Rattle.synth.specs.Request.{method_of, is_params, acting};
+ghost use Rattle.synth.specs.Request.{method_of, is_good, is_params, acting};
 ghost use Rattle.synth.specs.declared.Edition.{Edition};
 ghost use Rattle.synth.specs.Judgement.{◌then◌, ours, above};
 ghost use Rattle.synth.specs.States.{after_early, judge as judged};
 ghost use Rattle.channelnames.specs.Names.{name_of};
-ghost use Rattle.queue.specs.Queue.{list_of};
+ghost use Rattle.queue.specs.Queue.{list_of, no_ids};
 ghost use Rattle.channel.specs.Channel.{view_on};
 ghost use Rattle.request.specs.Telling.{Tells};
-ghost use Rattle.outcomes.specs.Outcomes.{asked};
+ghost use Rattle.outcomes.specs.Outcomes.{asked, outcome};
 ghost use Rattle.params.specs.Doing.{DoesOn};
+ghost use Rattle.params.specs.declared.Effect.TheVariants.{Nothing};
 ghost use Rattle.judgement.specs.Judged.{from_fields, Gets, Judges};
 
 // What a request comes to, and the last id seen after it.
 #[derive(Clone, Copy)]
 pub struct Judged {
-    pub last: synth::LastId,
+    pub last: Option<u32>,
     pub done: params::Done,
 }
 
 // 1. The version is 2.0, as numbers.
+// Numbers and no `framing::Framed`: judgement knows nothing of frames.
 fn is_current(major: u64, minor: u64) -> bool
     ensures { result ≡ (eqb major 2 && eqb minor 0) }
 {
-    if major != 2 {
-        return false;
-    }
-    minor == 0
+    major == 2 && minor == 0
 }
 
 // 4 and 5, of the Channel-Identifier `v`: it is this channel's name, and the id is above the last one seen.
-fn for_us(last: synth::LastId, name: channelnames::Name, v: &[u8], id: u32) -> values::Verdict
+// A private step, as those below: a well-formed name is what soundness gives, which `client` tests.
+fn for_us(
+    last: Option<u32>,
+    name: channelnames::Name,
+    v: &[u8],
+    id: u32,
+) -> Result<(), answer::Status>
     ensures { well_named (name_of name) ≡ true → Gets (λ v r. ours v r then above v r) last name id
         (λ r. some (joined v.entry.now) ≡ acting ChannelIdentifier r) result }
 {
     if !channelnames::is_name(name, v) {
-        return values::Verdict::Fails(answer::Status::no_such_channel());
+        return Err(answer::Status::NO_SUCH_CHANNEL);
     }
     if !channel::is_above(last, id) {
-        return values::Verdict::Fails(answer::Status::out_of_order());
+        return Err(answer::Status::OUT_OF_ORDER);
     }
-    values::Verdict::Passes
+    Ok(())
 }
 
-// 2 to 5, of the fields in the frame `f` that are those of the header `h`.
+// 3 to 5, of the fields in the frame `f` that passed 2 and are those of the header `h`.
 fn early(
-    last: synth::LastId,
+    last: Option<u32>,
     name: channelnames::Name,
     f: &[u8],
     h: header::Header,
     id: u32,
-) -> values::Verdict
-    ensures { well_named (name_of name) ≡ true
-        → (asks : Bool) → Gets from_fields last name id (λ r. Tells asks f.now h r.fields) result }
+) -> Result<(), answer::Status>
+    ensures { well_named (name_of name) ≡ true → (asks : Bool) → Gets from_fields last name id
+        (λ r. (is_good r.fields ≡ true) × Tells asks f.now h r.fields) result }
 {
-    if !h.good {
-        return values::Verdict::Fails(answer::Status::illegal_value());
-    }
-    let given = request::value(h, message::Known::ChannelIdentifier);
-    match given {
-        values::Given::Nothing => values::Verdict::Fails(answer::Status::field_missing()),
-        values::Given::At(p) => for_us(last, name, message::part(f, p), id),
-    }
+    let Some(p) = request::value(h, message::Known::ChannelIdentifier) else {
+        return Err(answer::Status::FIELD_MISSING);
+    };
+    for_us(last, name, message::part(f, p), id)
 }
 
 // 6 to 11, by the method.
@@ -88,18 +90,32 @@ fn act(
     ensures { length (list_of c.queue) ≤ 16 → is_edition_of kind c.set ≡ true → asks ≡ is_params m
         → DoesOn kind c.set c.state c.queue m id (λ r. Tells asks f.now h r.fields) result }
 {
-    let state = c.state;
-    let queue = c.queue;
-    let set = c.set;
     if asks {
-        return params::act(kind, state, queue, set, f, h, m, id);
+        return params::act(kind, c.state, c.queue, c.set, f, h, m, id);
     }
-    params::plain(methods::act(kind, state, queue, set, f, h, m, id))
+    params::plain(methods::act(kind, c.state, c.queue, c.set, f, h, m, id))
 }
 
-// 2 to 11. Once 5 passes, the last id seen is this one.
+// A request that fails 1 to 5: the last id seen stays.
+fn fails(last: Option<u32>, c: channel::Current, id: u32, status: answer::Status) -> Judged
+    ensures { result ≡ record {
+      last = last;
+      done = record {
+        outcome = outcome id status.code Complete no_ids c.state c.queue;
+        effect = Nothing;
+      };
+    } }
+{
+    Judged {
+        last,
+        done: params::plain(outcomes::failed(c.state, c.queue, id, status)),
+    }
+}
+
+// 3 to 11, of the fields in the frame `f` that passed 2 and are those of the header `h`. Once 5 passes, the last id
+// seen is this one.
 fn judge_fields(
-    last: synth::LastId,
+    last: Option<u32>,
     c: channel::Current,
     f: &[u8],
     h: header::Header,
@@ -111,23 +127,16 @@ fn judge_fields(
     ensures { kind ≡ kind_of (name_of c.name) → well_named (name_of c.name) ≡ true
         → length (list_of c.queue) ≤ 16 → is_edition_of kind c.set ≡ true → asks ≡ is_params m
         → (es : List Edition) → newest es ≡ c.set
-        → (major minor : ℕ) (fs : Fields (List ℕ)) → Tells asks f.now h fs
-        → (let v = view_on last c es in let r = asked major minor m id fs in Judges v result (after_early (from_fields v r) v r)) }
+        → (major minor : ℕ) (fs : Fields (List ℕ)) → is_good fs ≡ true → Tells asks f.now h fs
+        → (let v = view_on last c es in let r = asked major minor m id fs in
+        Judges v result (after_early (from_fields v r) v r)) }
 {
-    let name = c.name;
-    let verdict = early(last, name, f, h, id);
-    match verdict {
-        values::Verdict::Fails(status) => {
-            let state = c.state;
-            let queue = c.queue;
-            let done = params::plain(outcomes::failed(state, queue, id, status));
-            Judged { last, done }
-        }
-        values::Verdict::Passes => {
-            let done = act(kind, c, f, h, m, asks, id);
-            let last = synth::LastId::Seen(id);
-            Judged { last, done }
-        }
+    if let Err(status) = early(last, c.name, f, h, id) {
+        return fails(last, c, id, status);
+    }
+    Judged {
+        last: Some(id),
+        done: act(kind, c, f, h, m, asks, id),
     }
 }
 
@@ -135,7 +144,7 @@ fn judge_fields(
 // channel with a malformed name, more than 16 outstanding or settings that its kind cannot have, which is not sound,
 // nothing is said.
 pub fn judge(
-    last: synth::LastId,
+    last: Option<u32>,
     c: channel::Current,
     f: &[u8],
     at: usize,
@@ -152,15 +161,13 @@ pub fn judge(
         (fields_from (asks_params f.now (request_line name id)) f.now at)))) }
 {
     if !is_current(major, minor) {
-        let state = c.state;
-        let queue = c.queue;
-        let status = answer::Status::version_unsupported();
-        let done = params::plain(outcomes::failed(state, queue, id, status));
-        return Judged { last, done };
+        return fails(last, c, id, answer::Status::VERSION_UNSUPPORTED);
     }
     let kind = channelnames::kind(c.name);
     let m = methodnames::method_in(kind, methodnames::method(message::part(f, name)));
     let asks = methodnames::is_params(m);
-    let h = request::read(f, at, asks);
+    let Some(h) = request::read(f, at, asks) else {
+        return fails(last, c, id, answer::Status::ILLEGAL_VALUE);
+    };
     judge_fields(last, c, f, h, kind, m, asks, id)
 }

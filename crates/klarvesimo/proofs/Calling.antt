@@ -1,11 +1,11 @@
 -- What the calls of the C face come to, one law for each way out. Assumes nothing.
-use Prim.Native.Nat.{ℕ, zero, suc, ◌≤◌}
+use Prim.Native.Nat.{ℕ, ◌≤◌}
 use mathlib.Core.Path.{◌≡◌, refl, sym, ap, subst, ◌∙◌}
 use mathlib.Core.Bool.{Bool, true, false}
 use mathlib.Core.Option.{Option, none, some}
 use mathlib.Core.List.{List, [], ◌∷◌}
 use native.Mathlib.Omega.{arith}
-use lib.ListN.{length, set}
+use lib.ListN.{length}
 use Rattle.lists.proofs.Tests.{choose}
 use Rattle.answer.specs.declared.Kind.{Kind}
 use Rattle.ledger.specs.Ledger.{Turn}
@@ -15,7 +15,6 @@ use Rattle.synth.specs.Channel.{View, well_named, are_editions, shaped, sound}
 use Rattle.synth.specs.Calls as C
 use Rattle.synth.specs.Calls.{Lent, back, Call, Reply, call, open_channel}
 use Rattle.synth.specs.declared.Edition.{Edition}
-use Rattle.synth.specs.declared.LastId.TheVariants.{NoneSeen}
 use Rattle.synth.proofs.Channels.{sound_facts}
 use Rattle.synth.proofs.Theorems.Soundness.{call_sound}
 use Rattle.queue.specs.Queue.{list_of}
@@ -23,25 +22,31 @@ use Rattle.channelnames.specs.Names.{name_of, kind_by}
 use Rattle.channelnames.proofs.Fits.{name_fits_lem}
 use Rattle.channelnames.proofs.Tails.{named_kind}
 use Rattle.settings.specs.Kept.{as_further, further_on}
-use Rattle.settings.specs.declared.Further.{Further}
 use Rattle.channel.specs.Channel.{view, opened}
 use Rattle.channel.specs.declared.Opened.{Opened}
+use Rattle.std.proofs.Common as P
+use Rattle.std.proofs.Common.{None, Result, Ok, Err}
+use Rattle.calls.specs.Refusals.{number_of}
 use Rattle.calls.specs.Promise.{Left, left_in, Promise}
+use Rattle.calls.specs.declared.Refusal.{Refusal}
+use Rattle.calls.specs.declared.Refusal.TheVariants.{More, NoMessage, TooLong, TooShort, MalformedLine, NoRequest}
+use Rattle.calls.specs.declared.Refusal.TheVariants.{NoRoom, NothingAwaited, NoCause, NoScore, NotKept, NotSound}
+use Rattle.calls.specs.declared.Refused.{Refused}
 use Rattle.calls.specs.declared.Handled.{Handled}
 use Rattle.calls.proofs.Leaving.{name_short, editions_short, unsound_refused}
 use Rattle.channelnumbers.specs.Numbers.{numbers_of, editions_in, view_of, is_sound}
 use Rattle.channelnumbers.proofs.Theorems.LoadSaved.{sound_few}
 use Rattle.loading.specs.Loading.{Loads}
 use Rattle.loading.specs.declared.Loaded.{Loaded}
-use Rattle.klarvesimo.specs.Face.{open_face, CallFace, keeping, turn_face, call_on, call_face, counted, reported, gone, back_face}
+use Rattle.klarvesimo.specs.Face.{open_face, CallFace, keeping, turn_face, call_on, call_face}
 
 -- an opening
 pub opens : (name : List ℕ) (o : Opened) (saved : List ℕ) → opened o ≡ open_channel name
     → (length (name_of o.channel.name) ≤ 44 → length (list_of o.channel.queue) ≤ most (kind_by (name_of o.channel.name))
-    → saved ≡ numbers_of (view NoneSeen o.channel (unset ∷ []))) → record { number = o.number; channel = saved } ≡ open_face name
+    → saved ≡ numbers_of (view None o.channel (unset ∷ []))) → record { number = o.number; channel = saved } ≡ open_face name
 unfolding open_face
 opens name o saved e h =
-    let v : view NoneSeen o.channel (unset ∷ []) ≡ (open_channel name).channel = ap (λ (x : C.Opened). x.channel) e in
+    let v : view None o.channel (unset ∷ []) ≡ (open_channel name).channel = ap (λ (x : C.Opened). x.channel) e in
     let fits = opened_fits name in
     let same = h (subst (λ (x : View). length x.name ≤ 44) (sym v) fits.0) (subst (λ (x : View). length x.queue ≤ most (kind_by x.name)) (sym v) fits.1) in
     (λ i. record { number = (e i).number; channel = (same ∙ ap numbers_of v) i })
@@ -59,6 +64,21 @@ Saves ws r saved =
     → length (name_of r.channel.name) ≤ 44 → length (list_of r.channel.queue) ≤ most (kind_by (name_of r.channel.name))
     → saved ≡ numbers_of (view r.last r.channel (further_on r.further es))
 
+-- a refusal leaves the numbers as they were
+kept : (r : Refusal) (ws : List ℕ) (next : View) → ws ≡ keeping (number_of r) ws next
+kept More ws next = refl
+kept NoMessage ws next = refl
+kept TooLong ws next = refl
+kept TooShort ws next = refl
+kept MalformedLine ws next = refl
+kept NoRequest ws next = refl
+kept NoRoom ws next = refl
+kept NothingAwaited ws next = refl
+kept NoCause ws next = refl
+kept NoScore ws next = refl
+kept NotKept ws next = refl
+kept NotSound ws next = refl
+
 module _ (ws out : List ℕ) (lent : Lent) where
   abbrev made : Call
   made = record { lent = lent; room = length out }
@@ -73,7 +93,7 @@ module _ (ws out : List ℕ) (lent : Lent) where
       go (some v) h = ap (λ (t : Turn View Reply). turn_face t ws out) (unsound_refused v made h)
 
   -- the channel that was loaded of them, on which the call kept its promise
-  module _ (l : Loaded) (is : Loads ws l) (r : Handled) (after : List ℕ) (p : Promise l.last l.channel is.editions lent out r after) where
+  module _ (l : Loaded) (is : Loads ws l) (after : List ℕ) where
     abbrev v : View
     v = view l.last l.channel is.editions
 
@@ -88,66 +108,47 @@ module _ (ws out : List ℕ) (lent : Lent) where
     abbrev faced : Left → CallFace
     faced l = record { number = l.number; channel = keeping l.number ws l.channel; consumed = l.consumed; written = l.written; out = l.out }
 
-    promised : faced (left_in is.editions r after) ≡ call_face ws lent out
-    promised = ap faced p.same ∙ as_loaded
+    promised : (r : Result Handled Refused) → Promise l.last l.channel is.editions lent out r after
+        → faced (left_in l.last l.channel is.editions r after) ≡ call_face ws lent out
+    promised r p = ap faced p.same ∙ as_loaded
 
-    kept : (n : ℕ) (next : View) → (n ≡ 0 → ⊥) → ws ≡ keeping n ws next
-    kept zero next h = absurd (h refl)
-    kept (suc n) next h = refl
+    pub refused : (e : Refused) → Promise l.last l.channel is.editions lent out (Err e) after
+        → record { number = number_of e.refusal; channel = ws; consumed = e.consumed; written = 0; out = after } ≡ call_face ws lent out
+    refused e p =
+        (λ i. record { number = number_of e.refusal; channel = kept e.refusal ws v i; consumed = e.consumed; written = 0; out = after })
+        ∙ promised (Err e) p
 
-    abbrev next : View
-    next = view r.last r.channel (further_on r.further is.editions)
+    module _ (h : Handled) (p : Promise l.last l.channel is.editions lent out (Ok h) after) where
+      abbrev next : View
+      next = view h.last h.channel (further_on h.further is.editions)
 
-    refused : (r.number ≡ 0 → ⊥) → record { number = r.number; channel = ws; consumed = r.consumed; written = r.written; out = after } ≡ call_face ws lent out
-    refused h =
-        (λ i. record { number = r.number; channel = kept r.number next h i; consumed = r.consumed; written = r.written; out = after })
-        ∙ promised
+      -- a handled call was made on a sound channel, and leaves one of the same name
+      was_sound : sound v ≡ true
+      was_sound = go (sound v) refl
+        where
+          go : (b : Bool) → sound v ≡ b → sound v ≡ true
+          go true e = e
+          go false e =
+              let n : ◌≡◌ {A = ℕ} 0 21 = ap (λ (l : Left). l.number) p.same ∙ ap (λ (t : Turn View Reply). t.reply.number) (unsound_refused v made e) in
+              absurd (omega (arith, n))
 
-    -- a handled call was made on a sound channel, and leaves one of the same name
-    was_sound : r.number ≡ 0 → sound v ≡ true
-    was_sound z = go (sound v) refl
-      where
-        go : (b : Bool) → sound v ≡ b → sound v ≡ true
-        go true e = e
-        go false e =
-            let n : r.number ≡ 21 = ap (λ (l : Left). l.number) p.same ∙ ap (λ (t : Turn View Reply). t.reply.number) (unsound_refused v made e) in
-            absurd (omega (arith, n, z))
+      stays_sound : sound next ≡ true
+      stays_sound = ap (λ (l : Left). sound l.channel) p.same ∙ call_sound v made was_sound
 
-    stays_sound : r.number ≡ 0 → sound next ≡ true
-    stays_sound z = ap (λ (l : Left). sound l.channel) p.same ∙ call_sound v made (was_sound z)
+      pub answered : {saved : List ℕ} → Saves ws h saved
+          → record { number = 0; channel = saved; consumed = h.consumed; written = h.written; out = after } ≡ call_face ws lent out
+      answered {saved} save =
+          let s = stays_sound in
+          let w = was_sound in
+          let stand : editions_in (kind_by (name_of h.channel.name)) ws ≡ some is.editions =
+          ap (λ (l : List ℕ). editions_in (kind_by l) ws) p.named ∙ is.stand (is.soundness ∙ w) in
+          let own : are_editions (kind_by next.name) next.editions ≡ true =
+          ap (λ (k : Kind). are_editions k next.editions) (sym (named_kind next.name (sound_facts next s).named)) ∙ (sound_facts next s).editions_fit in
+          let same : saved ≡ numbers_of next = save is.editions stand (editions_short v w) own (name_short next s) (sound_few next s) in
+          (λ i. record { number = 0; channel = same i; consumed = h.consumed; written = h.written; out = after }) ∙ promised (Ok h) p
 
-    answered : r.number ≡ 0 → {saved : List ℕ} → Saves ws r saved
-        → record { number = 0; channel = saved; consumed = r.consumed; written = r.written; out = after } ≡ call_face ws lent out
-    answered z {saved} h =
-        let s = stays_sound z in
-        let w = was_sound z in
-        let stand : editions_in (kind_by (name_of r.channel.name)) ws ≡ some is.editions =
-        ap (λ (l : List ℕ). editions_in (kind_by l) ws) p.named ∙ is.stand (is.soundness ∙ w) in
-        let own : are_editions (kind_by next.name) next.editions ≡ true =
-        ap (λ (k : Kind). are_editions k next.editions) (sym (named_kind next.name (sound_facts next s).named)) ∙ (sound_facts next s).editions_fit in
-        let same : saved ≡ keeping r.number ws next =
-        h is.editions stand (editions_short v w) own (name_short next s) (sound_few next s) ∙ ap (λ (n : ℕ). keeping n ws next) (sym z) in
-        (λ i. record { number = sym z i; channel = same i; consumed = r.consumed; written = r.written; out = after }) ∙ promised
-
-module _ (ws out counts : List ℕ) (lent : Lent) (l : Loaded) (is : Loads ws l) (r : Handled) (after : List ℕ)
-    (p : Promise l.last l.channel is.editions lent out r after) where
-  pub handle_refused : (r.number ≡ 0 → ⊥)
-      → record { number = r.number; channel = ws; counts = set (set counts 0 r.consumed) 1 r.written; out = after } ≡ counted counts (call_face ws lent out)
-  handle_refused h = ap (counted counts) (refused ws out lent l is r after p h)
-
-  pub report_refused : (r.number ≡ 0 → ⊥)
-      → record { number = r.number; channel = ws; written = set counts 0 r.written; out = after } ≡ reported counts (call_face ws lent out)
-  report_refused h = ap (reported counts) (refused ws out lent l is r after p h)
-
-  module _ (z : r.number ≡ 0) {saved : List ℕ} (h : Saves ws r saved) where
-    pub handle_answered : record { number = 0; channel = saved; counts = set (set counts 0 r.consumed) 1 r.written; out = after } ≡ counted counts (call_face ws lent out)
-    handle_answered = ap (counted counts) (answered ws out lent l is r after p z h)
-
-    pub report_answered : record { number = 0; channel = saved; written = set counts 0 r.written; out = after } ≡ reported counts (call_face ws lent out)
-    report_answered = ap (reported counts) (answered ws out lent l is r after p z h)
-
--- a going back, which is lent no output, to what was found of its number
-module _ (ws : List ℕ) (n : ℕ) (l : Loaded) (is : Loads ws l) {found : Further} (r : Handled)
+-- a going back keeps its promise, to what was found of its number
+module _ (ws : List ℕ) (n : ℕ) (l : Loaded) (is : Loads ws l) {found : P.Option Edition} (r : Result Handled Refused)
     (of : (es : List Edition) → editions_in (kind_by (name_of l.channel.name)) ws ≡ some es
     → are_editions (kind_by (name_of l.channel.name)) es ≡ true → found ≡ as_further (edition_at n es))
     (q : (es : List Edition) (m : ℕ) → (shaped (view l.last l.channel es) ≡ true → found ≡ as_further (edition_at m es))
@@ -155,19 +156,11 @@ module _ (ws : List ℕ) (n : ℕ) (l : Loaded) (is : Loads ws l) {found : Furth
   abbrev came : View
   came = view l.last l.channel is.editions
 
-  p : Promise l.last l.channel is.editions (back n) [] r []
-  p = q is.editions n kept is.fit
+  pub back_promised : Promise l.last l.channel is.editions (back n) [] r []
+  back_promised = q is.editions n kept is.fit
     where
       kept : shaped came ≡ true → found ≡ as_further (edition_at n is.editions)
       kept h =
           let s : sound came ≡ true = is.fit ∙ h in
           of is.editions (is.stand (is.soundness ∙ s))
           (ap (λ (k : Kind). are_editions k is.editions) (sym (named_kind came.name (sound_facts came s).named)) ∙ (sound_facts came s).editions_fit)
-
-  pub back_refused : (r.number ≡ 0 → ⊥) → record { number = r.number; channel = ws } ≡ back_face ws n
-  unfolding back_face
-  back_refused h = ap gone (refused ws [] (back n) l is r [] p h)
-
-  pub back_done : r.number ≡ 0 → {saved : List ℕ} → Saves ws r saved → record { number = 0; channel = saved } ≡ back_face ws n
-  unfolding back_face
-  back_done z h = ap gone (answered ws [] (back n) l is r [] p z h)

@@ -1,9 +1,11 @@
 -- The calls of the C face on a channel that the caller keeps as 89 numbers. The layout is that of include/klarvesimo.h.
-use Rattle.std.specs.Prelude.{ℕ, zero, suc, true, false, List, [], ◌++◌, ltb, length, drop, set}
+use Rattle.std.specs.Prelude.{ℕ, zero, suc, true, false, List, [], ◌++◌, ltb, length, drop, set, Result, Ok, Err}
 use Rattle.std.proofs.Math.Option.{Option, none, some}
 use Rattle.ledger.specs.Ledger.{Turn}
 use Rattle.synth.specs.Channel.{View, held, sound}
 use Rattle.synth.specs.Calls.{Lent, back, Reply, call, open_channel}
+use Rattle.calls.specs.Refusals.{number_of}
+use Rattle.calls.specs.declared.Refusal.{Refusal}
 use Rattle.channelnumbers.specs.Numbers.{numbers_of, view_of}
 
 -- an opening's number, and the channel's numbers
@@ -108,6 +110,11 @@ held_on (some v) out = elim (sound v) [
 
 unfoldable pub held_face : List ℕ → List ℕ → HeldFace
 held_face ws out = held_on (view_of ws) out
+
+-- the same from what the code returns: how many, or why none are listed
+abbrev pub listing : Result ℕ Refusal → List ℕ → HeldFace
+listing (Ok count) ids = record { number = 0; count = count; ids = ids }
+listing (Err refusal) ids = record { number = number_of refusal; count = 0; ids = ids }
 
 pub record HeldCall : Type 0 where
   pub number : ℕ

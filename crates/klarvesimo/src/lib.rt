@@ -2,17 +2,61 @@
 // framing and reading alone are in `firmware`.
 #![tactic(auto)]
 
-ghost use Rattle.std.specs.Prelude.{◌≡◌, ◌++◌, ◌≤◌, length, take, drop};
-ghost use Rattle.synth.specs.Calls.{input, report as report_of};
-ghost use Rattle.klarvesimo.specs.Face.{open_face, call_face, counted, reported, back_face, held_face, listed};
+ghost use Rattle.std.specs.Prelude.{◌≡◌, ◌++◌, ◌≤◌, List, ℕ, length, drop};
+ghost use Rattle.synth.specs.Calls.{Lent, input, report as report_of};
+ghost use Rattle.calls.specs.Promise.{Promise};
+ghost use Rattle.loading.specs.Loading.{Loads};
+ghost use Rattle.loading.specs.declared.Loaded.{Loaded};
+ghost use Rattle.klarvesimo.specs.Face.{open_face, call_face, counted, reported, back_face, held_face, listing, listed};
+
+use calls::Refusal;
 
 pub fn klarvesimo_open(channel: &mut [u64; 89], name: &[u8]) -> u32
     ensures { record { number = result; channel = channel.new } ≡ open_face name.now }
 {
-    let o = channel::open_channel(name);
-    let c = o.channel;
-    channelnumbers::save_opened(c, channel);
-    o.number
+    let opened = channel::open_channel(name);
+    channelnumbers::save_opened(opened.channel, channel);
+    opened.number
+}
+
+// What C is told of a call: its number, and the counts consumed and written.
+#[derive(Clone, Copy)]
+struct Told {
+    number: u32,
+    consumed: u64,
+    written: u64,
+}
+
+// Saves the channel as a handled call left it; a refused call leaves the numbers as they were. Always inlined: called,
+// it takes 400 bytes of stack more.
+#[inline(always)]
+fn conclude(call: Result<calls::Handled, calls::Refused>, channel: &mut [u64; 89]) -> Told
+    ensures { (l : Loaded) (is : Loads channel.old l) (lent : Lent) (out after : List ℕ)
+        → Promise l.last l.channel is.editions lent out call after
+        → record {
+          number = result.number;
+          channel = channel.new;
+          consumed = result.consumed;
+          written = result.written;
+          out = after;
+        }
+        ≡ call_face channel.old lent out }
+{
+    match call {
+        Ok(handled) => {
+            channelnumbers::save_after(handled.last, handled.channel, handled.further, channel);
+            Told {
+                number: 0,
+                consumed: handled.consumed as u64,
+                written: handled.written as u64,
+            }
+        }
+        Err(refused) => Told {
+            number: refused.refusal.number(),
+            consumed: refused.consumed as u64,
+            written: 0,
+        },
+    }
 }
 
 // A client message: `counts` gets what was consumed and what was written.
@@ -27,20 +71,10 @@ pub fn klarvesimo_handle(
         (call_face channel.old (input s.now) out.old) }
 {
     let l = loading::load(channel);
-    let last = l.last;
-    let c = l.channel;
-    let set = l.set;
-    let r = client::handle(last, c, set, s, out);
-    counts[0] = r.consumed as u64;
-    counts[1] = r.written as u64;
-    if r.number != 0 {
-        return r.number;
-    }
-    let seen = r.last;
-    let next = r.channel;
-    let further = r.further;
-    channelnumbers::save_after(seen, next, further, channel);
-    0
+    let told = conclude(client::handle(l.last, l.channel, l.set, s, out), channel);
+    counts[0] = told.consumed;
+    counts[1] = told.written;
+    told.number
 }
 
 // An engine report: its cause, and the score of what was recognized.
@@ -56,18 +90,12 @@ pub fn klarvesimo_report(
         (call_face channel.old (report_of cause score) out.old) }
 {
     let l = loading::load(channel);
-    let last = l.last;
-    let c = l.channel;
-    let r = engine::report(last, c, cause, score, out);
-    written[0] = r.written as u64;
-    if r.number != 0 {
-        return r.number;
-    }
-    let seen = r.last;
-    let after = r.channel;
-    let further = r.further;
-    channelnumbers::save_after(seen, after, further, channel);
-    0
+    let told = conclude(
+        engine::report(l.last, l.channel, cause, score, out),
+        channel,
+    );
+    written[0] = told.written;
+    told.number
 }
 
 // A going back to an edition of the settings.
@@ -75,54 +103,48 @@ pub fn klarvesimo_back(channel: &mut [u64; 89], number: u32) -> u32
     ensures { record { number = result; channel = channel.new } ≡ back_face channel.old number }
 {
     let l = loading::load(channel);
-    let last = l.last;
-    let c = l.channel;
-    let name = c.name;
-    let found = loading::edition_at(channelnames::kind_by(name), number, channel);
-    let r = back::go_back(last, c, found);
-    if r.number != 0 {
-        return r.number;
-    }
-    let seen = r.last;
-    let after = r.channel;
-    let further = r.further;
-    channelnumbers::save_after(seen, after, further, channel);
-    0
+    let found = loading::edition_at(channelnames::kind_by(l.channel.name), number, channel);
+    conclude(back::go_back(l.last, l.channel, found), channel).number
 }
 
-// The first `n` of `ids` at the front of `out`.
-fn put_ids(out: &mut [u64], ids: [u32; queue::MOST], n: usize)
-    requires n_bound { n ≤ 16 }
-    requires n_in_bounds { n ≤ length out.old }
-    ensures { out.new ≡ take n ids ++ drop n out.old }
+// The ids at the front of `out`.
+fn put_ids(out: &mut [u64], ids: &[u32])
+    requires { length ids.now ≤ length out.old }
+    ensures { out.new ≡ ids.now ++ drop (length ids.now) out.old }
 {
-    let mut i = 0;
-    while i < n {
-        out[i] = ids[i] as u64;
-        i += 1;
+    for (i, id) in ids.iter().enumerate() {
+        out[i] = u64::from(*id);
     }
 }
 
-// The ids that the channel holds.
+// The ids that the channel holds, and how many they are.
+fn list(channel: &[u64; 89], ids: &mut [u64]) -> Result<usize, Refusal>
+    ensures { listing result ids.new ≡ held_face channel.now ids.old }
+{
+    let l = loading::load(channel);
+    if !channel::is_shaped(l.last, l.channel) {
+        return Err(Refusal::NotSound);
+    }
+    let held = queue::list_held(l.channel.queue);
+    if ids.len() < held.count {
+        return Err(Refusal::NoRoom);
+    }
+    put_ids(ids, &held.ids[..held.count]);
+    Ok(held.count)
+}
+
 pub fn klarvesimo_held(channel: &[u64; 89], ids: &mut [u64], count: &mut [u64; 1]) -> u32
     ensures { record { number = result; count = count.new; ids = ids.new }
         ≡ listed count.old (held_face channel.now ids.old) }
 {
-    count[0] = 0;
-    let l = loading::load(channel);
-    let last = l.last;
-    let c = l.channel;
-    if !channel::is_shaped(last, c) {
-        return 21;
+    match list(channel, ids) {
+        Ok(held) => {
+            count[0] = held as u64;
+            0
+        }
+        Err(refusal) => {
+            count[0] = 0;
+            refusal.number()
+        }
     }
-    let q = c.queue;
-    let held = queue::list_held(q);
-    let n = held.count;
-    if ids.len() < n {
-        return 7;
-    }
-    let list = held.ids;
-    put_ids(ids, list, n);
-    count[0] = n as u64;
-    0
 }

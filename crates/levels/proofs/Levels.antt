@@ -3,32 +3,26 @@
 use mathlib.Core.Path.{◌≡◌, refl, sym, ap, ap₂, ◌∙◌}
 use mathlib.Core.Bool.{Bool, true, false, ◌&&◌, and-false}
 use mathlib.Core.Logic.{⊎_elim}
-use mathlib.Core.Option.{Option, none, some}
+use mathlib.Core.Option.{none, some}
+use mathlib.Core.Option as Spec
+use Rattle.std.proofs.Common.{Option, None}
 use mathlib.Core.List.{List, [], ◌∷◌}
-use Prim.Native.Nat.{ℕ, zero, suc, ◌+◌, ◌-◌, ◌*◌, ◌^◌, ◌≤◌, ◌<◌}
-use native.Mathlib.Nat.{mul_assoc, mul_comm, zero-mul, one-mul, pow-suc}
+use Prim.Native.Nat.{ℕ, ◌+◌, ◌-◌, ◌*◌, ◌^◌, ◌≤◌, ◌<◌}
+use native.Mathlib.Nat.{mul_assoc, mul_comm, pow-suc}
 use native.Mathlib.Omega.{arith}
 use lib.Dec.{eqb, lit≤}
 use lib.ListN.{length, get_or, drop, length-drop}
-use borrow.Author.Tests.{ne_eqb, eq-eqb, eqb-true, le-leb, lt-leb}
+use borrow.Author.Tests.{ne_eqb, eq-eqb, eqb-true}
 use Rattle.lists.proofs.Tests.{either}
 use Rattle.readers.specs.Words.{decimal, number_of, is_number}
 use Rattle.readers.proofs.Decimals.{number_below}
 use Rattle.digits.specs.Steps.{digits_at}
 use Rattle.digits.specs.declared.Digits.{Digits}
 use Rattle.digits.proofs.Numerals.{counts, without, in_part, digits_alone, number_whole, value_whole}
-use Rattle.synth.specs.Levels.{quotient, level_of, places, at_most_one, level_in}
+use Rattle.synth.specs.Levels.{places, at_most_one, level_in}
 use Rattle.levels.specs.Reading.{kept, level_found}
 use Rattle.levels.specs.Steps.{is_first, level_by}
-use Rattle.levels.specs.declared.Found.{Found}
-
-pub ten_to : (k n : ℕ) → k ≡ n → 10 ^ n ≡ 10 ^ k
-ten_to k n e = ap (λ k. 10 ^ k) (sym e)
-
-pub times_few : (a d : ℕ) → a ≤ 1 → a * d ≤ d
-times_few zero d h = omega (arith, zero-mul d)
-times_few (suc zero) d h = omega (arith, one-mul d)
-times_few (suc (suc a)) d h = absurd (omega arith)
+use Rattle.synth.specs.declared.Level.{Level}
 
 pub first_bounds : (b : ℕ) → is_first b ≡ true → (48 ≤ b) × (b ≤ 49)
 first_bounds b e =
@@ -36,31 +30,6 @@ first_bounds b e =
     (λ h. let q : b ≡ 48 = eqb-true b 48 h in (omega arith, omega arith))
     (λ h. let q : b ≡ 49 = eqb-true b 49 h in (omega arith, omega arith))
     (either (eqb b 48) (eqb b 49) e)
-
--- the digits n, of which k stand behind the point
-module _ (n k : ℕ) where
-  abbrev by : Bool → Found
-  by b = kept (elim b [ true ↦ some (level_of n k) | false ↦ none ])
-
-  pub above_one : 10 ^ k < n → Found.Illegal ≡ kept (level_by n k)
-  above_one h = sym (ap by (lt-leb n (10 ^ k) h))
-
-  pub within_one : n ≤ 10 ^ k → (m d : ℕ) → m ≡ 10 ^ (6 - k) → d ≡ 10 ^ k
-      → Found.Of (record { millionths = n * m; single = quotient n d }) ≡ kept (level_by n k)
-  within_one h m d f e =
-      ap₂ (λ (m d : ℕ). Found.Of (record { millionths = n * m; single = quotient n d })) f e
-      ∙ sym (ap by (le-leb n (10 ^ k) h))
-
--- a level's millionths are a million at most
-pub few_millionths : (n k : ℕ) → k ≤ 6 → n ≤ 10 ^ k → n * 10 ^ (6 - k) ≤ 1000000
-few_millionths n zero l h = omega arith
-few_millionths n (suc zero) l h = omega arith
-few_millionths n (suc (suc zero)) l h = omega arith
-few_millionths n (suc (suc (suc zero))) l h = omega arith
-few_millionths n (suc (suc (suc (suc zero)))) l h = omega arith
-few_millionths n (suc (suc (suc (suc (suc zero))))) l h = omega arith
-few_millionths n (suc (suc (suc (suc (suc (suc zero)))))) l h = omega arith
-few_millionths n (suc (suc (suc (suc (suc (suc (suc k))))))) l h = absurd (omega arith)
 
 -- digits behind a number
 decimal_add : (a b : ℕ) (ds : List ℕ) → decimal (a + b) ds ≡ a * 10 ^ length ds + decimal b ds
@@ -81,10 +50,10 @@ first_digit x ds =
 
 -- a text that begins with x, by the digits behind the point
 module _ (x : ℕ) where
-  abbrev behind : Option (List ℕ) → Found
+  abbrev behind : Spec.Option (List ℕ) → Option Level
   behind ds = kept (at_most_one x ds)
 
-  abbrev starting : List ℕ → Bool → Found
+  abbrev starting : List ℕ → Bool → Option Level
   starting l b = kept (elim b [ true ↦ at_most_one x (places l) | false ↦ none ])
 
   begun : (l : List ℕ) → is_first x ≡ true → behind (places l) ≡ level_found (x ∷ l)
@@ -97,15 +66,10 @@ module _ (x : ℕ) where
       ap₂ (λ (n k : ℕ). kept (level_by n k))
       (e ∙ ap (λ k. (x - 48) * 10 ^ k + number_of ds) h ∙ first_digit x ds) h
 
-pub no_text : (v : List ℕ) → length v ≡ 0 → Found.Illegal ≡ level_found v
-unfolding level_in
-no_text [] e = refl
-no_text (x ∷ l) e = absurd (omega arith)
-
-pub no_first : (v : List ℕ) → is_first (get_or v 0 0) ≡ false → Found.Illegal ≡ level_found v
+pub no_first : (v : List ℕ) → is_first (get_or v 0 0) ≡ false → level_found v ≡ None
 unfolding level_in
 no_first [] e = refl
-no_first (x ∷ l) e = sym (ap (starting x l) e)
+no_first (x ∷ l) e = ap (starting x l) e
 
 pub first_alone : (v : List ℕ) → length v ≡ 1 → is_first (get_or v 0 0) ≡ true
     → (n : ℕ) → n ≡ (get_or v 0 0 - 48) * 10 ^ 0 + 0 → kept (level_by n 0) ≡ level_found v
@@ -135,27 +99,27 @@ module _ (v : List ℕ) (b : Begun v) where
   ds = drop 2 v
 
   -- ds behind a point, where the test holds
-  abbrev pointed : Bool → Found
+  abbrev pointed : Bool → Option Level
   pointed t = behind x (elim t [ true ↦ some ds | false ↦ none ])
 
-  judged : pointed (eqb y 46 && is_number 6 ds) ≡ level_found v
-  judged = begun x (y ∷ ds) b.first ∙ ap (λ v. level_found v) (parts v b)
+  judged : level_found v ≡ pointed (eqb y 46 && is_number 6 ds)
+  judged = sym (begun x (y ∷ ds) b.first ∙ ap (λ v. level_found v) (parts v b))
 
-  pub no_point : (y ≡ 46 → ⊥) → Found.Illegal ≡ level_found v
-  no_point p = sym (ap (λ t. pointed (t && is_number 6 ds)) (ne_eqb y 46 p)) ∙ judged
+  pub no_point : (y ≡ 46 → ⊥) → level_found v ≡ None
+  no_point p = judged ∙ ap (λ t. pointed (t && is_number 6 ds)) (ne_eqb y 46 p)
 
   -- the digits d behind the point
   module _ (d : Digits) (found : d ≡ digits_at 6 ds) where
     pub few : d.count ≤ 6
     few = omega (arith, counts 6 (lit≤ tt) ds d found)
 
-    no_number : is_number 6 ds ≡ false → Found.Illegal ≡ level_found v
-    no_number e = sym (ap pointed (ap (λ t. eqb y 46 && t) e ∙ and-false (eqb y 46))) ∙ judged
+    no_number : is_number 6 ds ≡ false → level_found v ≡ None
+    no_number e = judged ∙ ap pointed (ap (λ t. eqb y 46 && t) e ∙ and-false (eqb y 46))
 
-    pub no_digits : d.count ≡ 0 → Found.Illegal ≡ level_found v
+    pub no_digits : d.count ≡ 0 → level_found v ≡ None
     no_digits z = no_number (without 6 (lit≤ tt) ds d found z)
 
-    pub more_behind : (length v - 2 ≡ d.count → ⊥) → Found.Illegal ≡ level_found v
+    pub more_behind : (length v - 2 ≡ d.count → ⊥) → level_found v ≡ None
     more_behind z = no_number (in_part 6 (lit≤ tt) ds d found (λ q. z (sym (q ∙ length-drop 2 v))))
 
     module _ (came : d.count ≡ 0 → ⊥) (whole : length v - 2 ≡ d.count) where
@@ -173,4 +137,4 @@ module _ (v : List ℕ) (b : Begun v) where
           written x ds n d.count
           (h ∙ ap (λ m. (x - 48) * 10 ^ d.count + m) (value_whole 6 (lit≤ tt) ds d found came all_read)) all_read
           ∙ sym (ap pointed (ap₂ ◌&&◌ (eq-eqb y 46 p) (number_whole 6 (lit≤ tt) ds d found came all_read)))
-          ∙ judged
+          ∙ sym judged

@@ -1,27 +1,20 @@
--- Single-precision numbers: the quotient of two whole numbers is one, its bits are no other number's, and x differs
--- from itself where it is none. Assumes nothing.
+-- Single-precision numbers: the quotient of two whole numbers is one, and what is none has other bits. Assumes nothing.
 use mathlib.Core.Path.{◌≡◌, refl, sym, subst, ap, ◌∙◌}
 use mathlib.Core.Bool.{Bool, true, false, cond, false≢true}
 use Prim.Native.Nat.{ℕ, zero, suc, ◌+◌, ◌*◌, ◌^◌, ◌≤◌, ◌<◌}
 use native.Mathlib.Nat.{mul-one, mul-pos, lt_irrefl, zero-mul}
 use native.Mathlib.Omega.{arith}
-use lib.Dec.{T, le→leb, ltb, eqb, not_T}
-use lib.IntN.{ℤ, pos}
-use lib.Ieee.{Float, nan, inf, fin, Format, binary32, in_float, eq, ne, is_nan, round, units, odd, div, of_int, up, down, fits, to_bits, of_bits}
-use lib.Ieee.{low, emax, prec}
-use lib.Ieee.Bits.{is_false, of_bits-to_bits}
-use lib.Ieee.Compare.{differs_from_itself}
+use lib.Dec.{T, ltb, eqb}
+use lib.IntN.{pos}
+use lib.Ieee.{Float, nan, inf, fin, Format, binary32, is_nan, round, units, odd, div, of_int, up, down, fits}
+use lib.Ieee.{to_bits, of_bits, low, emax, prec}
+use lib.Ieee.Bits.{of_bits-to_bits}
 use lib.Ieee.Fits.{down_pos, div-fits}
 use lib.Ieee.Exact.{HasValue}
 use lib.Ieee.Back.{round_whole}
 use lib.Ieee.Scale.{round_same}
 use borrow.Author.Tests.{ne_eqb}
 use Rattle.synth.specs.Levels.{quotient}
-
--- a whole number up to 2 ^ 24 is exact
-pub in_single : (n : ℕ) → n ≤ 16777216 → T (in_float binary32 (pos n))
-unfolding in_float
-in_single n h = le→leb n 16777216 h
 
 -- rounding gives a number
 odd_number : (d : ℕ) (s : Bool) (q k l : ℕ) → is_nan (odd d s q k l) ≡ false
@@ -70,18 +63,6 @@ quotient_is n d hn hd h =
 
 pub quotient_number : (n d : ℕ) → n ≤ 16777216 → d ≤ 16777216 → 0 < d → is_nan (quotient n d) ≡ false
 quotient_number n d hn hd h = ap is_nan (quotient_is n d hn hd h) ∙ round_number binary32 false n d
-
-fin_not_nan : (s : Bool) (m : ℕ) (e : ℤ) → fin s m e ≡ nan → ⊥
-fin_not_nan s m e p = let z : ◌≡◌ {A = ℕ} 0 1 = cc in omega arith
-
--- x != x exactly at no number
-pub differs : (x : Float) → ne x x ≡ is_nan x
-unfolding ne eq is_nan
-differs nan = refl
-differs (inf true) = refl
-differs (inf false) = refl
-differs (fin s m e) =
-    is_false (ne (fin s m e) (fin s m e)) (not_T (ne (fin s m e) (fin s m e)) (λ t. fin_not_nan s m e (differs_from_itself (fin s m e) t)))
 
 no_number : (x : Float) → is_nan x ≡ true → x ≡ nan
 unfolding is_nan

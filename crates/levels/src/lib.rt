@@ -7,17 +7,10 @@ ghost use Rattle.synth.specs.Levels.{single};
 ghost use Rattle.levels.specs.Reading.{kept, level_found};
 ghost use Rattle.levels.specs.Steps.{is_first, level_by};
 
-// What a text says as a level: none, or its millionths and the single-precision number.
-#[derive(Clone, Copy)]
-pub enum Found {
-    Illegal,
-    Of(synth::Level),
-}
-
 // The millionths of one, above which is no level.
 pub const ONE: u32 = 1000000;
 
-// The powers of ten that divide the digits of a level.
+// The powers of ten that divide the digits of a level: a table, where `10u32.pow` is a loop.
 fn power(places: usize) -> u32
     requires { places ≤ 6 }
     ensures { (result ≡ 10 ^ places) × (1 ≤ result) × (result ≤ 1000000) }
@@ -34,15 +27,15 @@ fn power(places: usize) -> u32
 }
 
 // The level of the digits `n`, of which so many stand behind the point, where it is at most one.
-fn at_most_one(n: u32, places: usize) -> Found
+fn at_most_one(n: u32, places: usize) -> Option<synth::Level>
     requires { places ≤ 6 }
     ensures { result ≡ kept (level_by n places) }
 {
     let d = power(places);
     if d < n {
-        return Found::Illegal;
+        return None;
     }
-    Found::Of(synth::Level {
+    Some(synth::Level {
         millionths: n * power(6 - places),
         single: (n as f32) / (d as f32),
     })
@@ -59,38 +52,32 @@ fn digits_of(first: u8, value: u64, places: usize) -> u32
 fn is_first(b: u8) -> bool
     ensures { result ≡ is_first b }
 {
-    if b == b'0' {
-        return true;
-    }
-    b == b'1'
+    matches!(b, b'0' | b'1')
 }
 
 // The level that `v` writes. At most eight bytes are looked at.
-pub fn level_in(v: &[u8]) -> Found
+// Not by `first`: a reference in an Option is laid out for 64 bits (docs/DECISIONS.md, "Other processors").
+pub fn level_in(v: &[u8]) -> Option<synth::Level>
     ensures { result ≡ level_found v.now }
 {
     if v.len() == 0 {
-        return Found::Illegal;
+        return None;
     }
     let first = v[0];
     if !is_first(first) {
-        return Found::Illegal;
+        return None;
     }
     if v.len() == 1 {
         return at_most_one(digits_of(first, 0, 0), 0);
     }
     if v[1] != b'.' {
-        return Found::Illegal;
+        return None;
     }
     let d = digits::digits_at(v, 2, 6);
-    let places = d.count;
-    if places == 0 {
-        return Found::Illegal;
+    if d.count == 0 || v.len() - 2 != d.count {
+        return None;
     }
-    if v.len() - 2 != places {
-        return Found::Illegal;
-    }
-    at_most_one(digits_of(first, d.value, places), places)
+    at_most_one(digits_of(first, d.value, d.count), d.count)
 }
 
 // The single-precision number of a level that is kept by its millionths: one division, rounded once.

@@ -13,6 +13,7 @@ use lib.Dec.{eqb, leb, ltb}
 use lib.ListN.{length, take, get_or, set, replicate, length-append, length-map, length-take, length-replicate}
 use lib.Seq.{take-suc-set}
 use borrow.Author.Tests.{lt-ltb, ltb-true, le-leb, leb-true, eqb-true}
+use Rattle.std.specs.declared.option.Option as O
 use Rattle.lists.specs.Lists.{all}
 use Rattle.lists.proofs.Tests.{both, either, refuted}
 use Rattle.lists.proofs.Scans.{all_append, all_of}
@@ -22,10 +23,8 @@ use Rattle.synth.specs.Kinds.{most}
 use Rattle.synth.specs.Settings.{newest}
 use Rattle.synth.specs.Channel.{View, kind, ids, first_above, are_levels, are_editions, shaped, sound}
 use Rattle.synth.specs.declared.State.{State}
-use Rattle.synth.specs.declared.State.TheVariants.{Recognized}
 use Rattle.synth.specs.declared.Entry.{Entry}
 use Rattle.synth.specs.declared.Edition.{Edition}
-use Rattle.synth.specs.declared.LastId.{LastId}
 use Rattle.synth.proofs.Channels.{Small, small_by, most_16, sound_facts, held_small}
 use Rattle.synth.proofs.Names as S
 use Rattle.queue.specs.Queue.{kill_in, entry_in, entries_of, list_of}
@@ -72,14 +71,6 @@ all_last test (y ∷ l) x h =
 loaded_more : {A : Type 0} (f : ℕ → A) (at : ℕ) (ws : List ℕ) (r : List A) (i : ℕ) → i < length r → take i r ≡ map f (numbers_at at i ws)
     → take (i + 1) (set r i (f (get_or ws (at + i) 0))) ≡ map f (numbers_at at (i + 1) ws)
 loaded_more f at ws r i k e = rw (numbers_more at i ws, map-append, add-one i, take-suc-set r i, e)
-
-pub recognized_at : (n : ℕ) → (n ≡ 0 → ⊥) → (n ≡ 1 → ⊥) → (n ≡ 2 → ⊥) → (n ≡ 3 → ⊥) → n ≤ 4 → state_at n ≡ some Recognized
-recognized_at zero a b c d h = absurd (a refl)
-recognized_at (suc zero) a b c d h = absurd (b refl)
-recognized_at (suc (suc zero)) a b c d h = absurd (c refl)
-recognized_at (suc (suc (suc zero))) a b c d h = absurd (d refl)
-recognized_at (suc (suc (suc (suc zero)))) a b c d h = refl
-recognized_at (suc (suc (suc (suc (suc n))))) a b c d h = absurd (omega arith)
 
 -- what a loop gathers is below 2^k exactly while each number is, and then they are what was loaded
 pub record Gathered {A : Type 0} (k : ℕ) (f : ℕ → A) (at : ℕ) (ws : List ℕ) (l : List A) (bits i : ℕ) : Type 0 where
@@ -442,7 +433,7 @@ module _ (ws : List ℕ) where
   told_editions (some es) e = (refl, e)
 
   -- the parts are those of the channel that the numbers are, or numbers and channel are not sound
-  module _ (last : LastId) (c : Channel) (set : Edition)
+  module _ (last : O.Option ℕ) (c : Channel) (set : Edition)
       (n : LoadsPart (name_fits ws) named 44 (name_of c.name))
       (q : LoadsPart (queue_fits (kind_by (name_of c.name)) ws) (entries_at (kind_by (name_of c.name)) count ws) 16 (list_of c.queue))
       (s : get_or ws 0 0 ≤ 4 → state_at (get_or ws 0 0) ≡ some c.state) (l : get_or ws 1 0 ≤ 4294967296 → last ≡ last_at (get_or ws 1 0))

@@ -1,31 +1,28 @@
 -- Settings and editions by their numbers: which fit, and one turn of the loop that tests them. Assumes nothing.
-use Prim.Native.Nat.{ℕ, zero, suc, ◌+◌, ◌-◌, ◌*◌, ◌≤◌, ◌<◌}
+use Prim.Native.Nat.{ℕ, zero, suc, ◌+◌, ◌*◌, ◌≤◌, ◌<◌}
 use mathlib.Core.Path.{◌≡◌, refl, sym, ap, ap₂, ◌∙◌}
-use mathlib.Core.Bool.{Bool, true, false, ◌&&◌, false≢true, cond}
+use mathlib.Core.Bool.{Bool, true, false, ◌&&◌, false≢true}
 use mathlib.Core.Option.{Option, none, some}
-use mathlib.Core.List.{List, [], ◌∷◌}
-use native.Mathlib.Nat.{le_refl}
+use mathlib.Core.List.{List, ◌∷◌}
 use native.Mathlib.Omega.{arith}
 use lib.Dec.{eqb, leb, ltb}
 use lib.Ieee.{binary32, to_bits}
 use lib.ListN.{length, get_or}
-use borrow.Author.Tests.{leb-true, leb-false, lt-ltb, le-ltb, eq-eqb, ne_eqb, eqb-true, eqb-false}
+use borrow.Author.Tests.{leb-true, leb-false, lt-ltb, le-ltb, eq-eqb, ne_eqb}
+use Rattle.std.specs.Prelude.{Some, None}
 use Rattle.lists.specs.Lists.{all}
 use Rattle.lists.proofs.Tests.{both, refuted}
 use Rattle.answer.specs.declared.Kind.{Kind}
 use Rattle.synth.specs.Levels.{single}
 use Rattle.synth.specs.Settings.{Sort, flag, millis, level, kill_on_barge_in, fetch_timeout, no_input_timeout, confidence_threshold, sensitivity_level, settings, edition, unset, is_kept, kept_as, is_edition_of, newest, edition_at}
 use Rattle.synth.specs.Channel.{are_editions}
-use Rattle.synth.specs.declared.Level.{Level}
 use Rattle.synth.specs.declared.Setting.{Setting}
 use Rattle.synth.specs.declared.Edition.{Edition}
 use Rattle.synth.proofs.Levels.{kept_most}
 use Rattle.synth.proofs.Theorems.Editions.{not_kept}
 use Rattle.settings.specs.Kept.{as_further}
-use Rattle.settings.specs.declared.Further.{Further}
 use Rattle.channelnumbers.specs.Numbers.{flag_at, setting_at, with_setting, edition_from, joining, editions_from, editions_in}
 use Rattle.loading.specs.Steps.{is_own, setting_kept, edition_kept, editions_kept, or_none, Read}
-use Rattle.loading.proofs.Loading.{regroup}
 
 -- ---- a setting
 
@@ -74,26 +71,12 @@ level_kept (suc (suc zero)) v = refl
 level_kept (suc (suc (suc zero))) v = level_fits v
 level_kept (suc (suc (suc (suc n)))) v = far 3 1000001 (suc (suc (suc (suc n)))) v (omega arith)
 
--- the setting of each sort, where it can be kept
-pub unset_read : (n v : ℕ) → n ≡ 0 → Read (setting_at n v) Setting.Unset
-unset_read n v e = λ s h. ap (λ (k : ℕ). setting_at k v) e
-
-pub flag_read : (n v : ℕ) → n ≡ 1 → Read (setting_at n v) (Setting.Flag (eqb v 1))
-flag_read n v e = λ s h. ap (λ (k : ℕ). setting_at k v) e ∙ go s v (ap (λ (k : ℕ). setting_kept s (setting_at k v)) (sym e) ∙ h)
-  where
-    go : (s : Sort) (v : ℕ) → setting_kept s (flag_at v) ≡ true → flag_at v ≡ some (Setting.Flag (eqb v 1))
-    go s zero h = refl
-    go s (suc zero) h = refl
-    go s (suc (suc v)) h = absurd (false≢true h)
-
-pub millis_read : (n v : ℕ) → n ≡ 2 → Read (setting_at n v) (Setting.Millis v)
-millis_read n v e = λ s h. ap (λ (k : ℕ). setting_at k v) e
-
 level_most : (s : Sort) (v : ℕ) → kept_as s (Setting.Level (record { millionths = v; single = single v })) ≡ true → v ≤ 1000000
 level_most flag v h = absurd (false≢true h)
 level_most millis v h = absurd (false≢true h)
 level_most level v h = kept_most (record { millionths = v; single = single v }) h
 
+-- a setting of the last sort is a level
 pub level_read : (n v : ℕ) (r : Setting) → (n ≡ 0 → ⊥) → (n ≡ 1 → ⊥) → (n ≡ 2 → ⊥) → (v ≤ 1000000 → setting_at 3 v ≡ some r)
     → Read (setting_at n v) r
 level_read zero v r a b c e = absurd (a refl)
@@ -110,7 +93,7 @@ two o p = with_setting kill_on_barge_in o (with_setting fetch_timeout p (some un
 abbrev three : Option Setting → Option Setting → Option Setting → Option Edition
 three o p q = with_setting no_input_timeout o (with_setting confidence_threshold p (with_setting sensitivity_level q (some unset)))
 
-last_off : (a : Bool) → false ≡ (a && false)
+pub last_off : (a : Bool) → false ≡ (a && false)
 last_off true = refl
 last_off false = refl
 
@@ -149,31 +132,18 @@ module _ (at : ℕ) (ws : List ℕ) where
   abbrev here : ℕ → Option Setting
   here k = setting_at (number k) (number (k + 1))
 
-  module _ (fits : Bool) where
-    pub two_fit : {c d : Bool} → c ≡ (fits && is_own 1 2 (number at) (number (at + 1)))
-        → d ≡ (c && is_own 2 10000000000000000000 (number (at + 2)) (number (at + 2 + 1)))
-        → d ≡ (fits && edition_kept Kind.Synthesizer (two (here at) (here (at + 2))))
-    two_fit s t =
-        t
-        ∙ ap₂ ◌&&◌ (s ∙ ap (λ (x : Bool). fits && x) (flag_kept (number at) _)) (millis_kept (number (at + 2)) _)
-        ∙ regroup fits (setting_kept flag (here at)) (setting_kept millis (here (at + 2)))
-        ∙ ap (λ (x : Bool). fits && x) (sym (two_kept (here at) (here (at + 2))))
+  pub two_fit : edition_kept Kind.Synthesizer (two (here at) (here (at + 2)))
+      ≡ (is_own 1 2 (number at) (number (at + 1)) && is_own 2 10000000000000000000 (number (at + 2)) (number (at + 2 + 1)))
+  two_fit =
+      two_kept (here at) (here (at + 2))
+      ∙ ap₂ ◌&&◌ (sym (flag_kept (number at) _)) (sym (millis_kept (number (at + 2)) _))
 
-    pub three_fit : {c d e : Bool} → c ≡ (fits && is_own 2 10000000000000000000 (number at) (number (at + 1)))
-        → d ≡ (c && is_own 3 1000001 (number (at + 2)) (number (at + 2 + 1)))
-        → e ≡ (d && is_own 3 1000001 (number (at + 2 + 2)) (number (at + 2 + 2 + 1)))
-        → e ≡ (fits && edition_kept Kind.Recognizer (three (here at) (here (at + 2)) (here (at + 2 + 2))))
-    three_fit r s t =
-        let o : Bool = setting_kept millis (here at) in
-        let p : Bool = setting_kept level (here (at + 2)) in
-        let q : Bool = setting_kept level (here (at + 2 + 2)) in
-        t
-        ∙ ap₂ ◌&&◌
-        (s ∙ ap₂ ◌&&◌ (r ∙ ap (λ (x : Bool). fits && x) (millis_kept (number at) _)) (level_kept (number (at + 2)) _))
-        (level_kept (number (at + 2 + 2)) _)
-        ∙ ap (λ (x : Bool). x && q) (regroup fits o p)
-        ∙ regroup fits (o && p) q
-        ∙ ap (λ (x : Bool). fits && x) (sym (three_kept (here at) (here (at + 2)) (here (at + 2 + 2))))
+  pub three_fit : edition_kept Kind.Recognizer (three (here at) (here (at + 2)) (here (at + 2 + 2)))
+      ≡ (is_own 2 10000000000000000000 (number at) (number (at + 1)) && is_own 3 1000001 (number (at + 2)) (number (at + 2 + 1))
+      && is_own 3 1000001 (number (at + 2 + 2)) (number (at + 2 + 2 + 1)))
+  three_fit =
+      three_kept (here at) (here (at + 2)) (here (at + 2 + 2))
+      ∙ ap₂ ◌&&◌ (ap₂ ◌&&◌ (sym (millis_kept (number at) _)) (sym (level_kept (number (at + 2)) _))) (sym (level_kept (number (at + 2 + 2)) _))
 
   pub two_read : {x y : Setting} → Read (here at) x → Read (here (at + 2)) y
       → edition_kept Kind.Synthesizer (two (here at) (here (at + 2))) ≡ true
@@ -266,46 +236,20 @@ module _ (kind : Kind) (ws : List ℕ) where
   abbrev n : ℕ
   n = get_or ws 64 0
 
-  -- what one turn after the other has tested
-  pub record EditionsTested (fits : Bool) (i : ℕ) : Type 0 where
-    pub few : fits ≡ true → (leb 1 n && leb n 4) ≡ true
-    pub fit : fits ≡ true → (k : ℕ) → k < i → edition_kept kind (from (65 + k * 6)) ≡ true
-    pub unfit : fits ≡ false → editions_kept kind (editions_in kind ws) ≡ true → ⊥
+  -- they can be kept exactly where there are one to four, and each can
+  pub unfit_many : (leb 1 n && leb n 4) ≡ false → false ≡ editions_kept kind (editions_in kind ws)
+  unfit_many e =
+      sym (refuted (editions_kept kind (editions_in kind ws))
+      (λ h. false≢true (sym e ∙ (kept_facts n (editions_in kind ws) (counted 65 n) h).0)))
 
-  pub none_tested : {fits : Bool} → fits ≡ (leb 1 n && leb n 4) → EditionsTested fits 0
-  none_tested e = record {
-    few = λ z. sym e ∙ z;
-    fit = λ z k l. absurd (omega arith);
-    unfit = λ z h. false≢true (sym z ∙ e ∙ (kept_facts n (editions_in kind ws) (counted 65 n) h).0);
-  }
+  pub unfit_one : (i : ℕ) → i < n → edition_kept kind (from (65 + i * 6)) ≡ false → false ≡ editions_kept kind (editions_in kind ws)
+  unfit_one i l e =
+      sym (refuted (editions_kept kind (editions_in kind ws))
+      (λ h. false≢true (sym e ∙ each_kept 65 n i l (kept_facts n (editions_in kind ws) (counted 65 n) h).1)))
 
-  pub one_tested : (fits after : Bool) (i : ℕ) → i < n → after ≡ (fits && edition_kept kind (from (65 + i * 6)))
-      → EditionsTested fits i → EditionsTested after (i + 1)
-  one_tested fits after i l f s = record {
-    few = λ z. s.few (passed z).0;
-    fit = λ z k h. placed k h z (eqb k i) refl;
-    unfit = λ z h. stopped fits refl z h;
-  }
-    where
-      passed : after ≡ true → (fits ≡ true) × (edition_kept kind (from (65 + i * 6)) ≡ true)
-      passed z = both fits (edition_kept kind (from (65 + i * 6))) (sym f ∙ z)
-
-      placed : (k : ℕ) → k < i + 1 → after ≡ true → (b : Bool) → eqb k i ≡ b → edition_kept kind (from (65 + k * 6)) ≡ true
-      placed k h z true t = rw (eqb-true k i t) (passed z).1
-      placed k h z false t = let other = eqb-false k i t in s.fit (passed z).0 k (omega arith)
-
-      stopped : (b : Bool) → fits ≡ b → after ≡ false → editions_kept kind (editions_in kind ws) ≡ true → ⊥
-      stopped false q z h = s.unfit q h
-      stopped true q z h =
-          let kept = each_kept 65 n i l (kept_facts n (editions_in kind ws) (counted 65 n) h).1 in
-          false≢true (sym z ∙ f ∙ ap₂ ◌&&◌ q kept)
-
-  pub all_tested : (all_fit : Bool) {fits : Bool} {m : ℕ} → fits ≡ (leb 1 n && leb n 4) → m ≡ cond fits n 0
-      → EditionsTested all_fit m → all_fit ≡ editions_kept kind (editions_in kind ws)
-  all_tested false f e s = sym (refuted (editions_kept kind (editions_in kind ws)) (s.unfit refl))
-  all_tested true f e s =
-      let m = e ∙ ap (λ (b : Bool). cond b n 0) (f ∙ s.few refl) in
-      sym (kept_by n (editions_in kind ws) (counted 65 n) (s.few refl) (all_kept_lem 65 n (rw m at (s.fit refl))))
+  pub all_fit : (leb 1 n && leb n 4) ≡ true → ((k : ℕ) → k < n → edition_kept kind (from (65 + k * 6)) ≡ true)
+      → true ≡ editions_kept kind (editions_in kind ws)
+  all_fit e h = sym (kept_by n (editions_in kind ws) (counted 65 n) e (all_kept_lem 65 n h))
 
   -- the newest of them
   pub first_set : {e : Edition} → (edition_kept kind (from 65) ≡ true → from 65 ≡ some e)
@@ -348,25 +292,19 @@ module _ (kind : Kind) (ws : List ℕ) where
     pub as_many : length es ≡ n
     as_many = rw is at (counted 65 n)
 
-    -- no edition of that number
-    pub not_there : (k : ℕ) → 4 ≤ k → Further.Nothing ≡ as_further (edition_at (suc k) es)
-    not_there k l =
+    pub few : length es ≤ 4
+    few =
         let kept : editions_kept kind (editions_in kind ws) ≡ true = ap (editions_kept kind) is ∙ h in
         let four = leb-true n 4 (both (leb 1 n) (leb n 4) (kept_facts n (editions_in kind ws) (counted 65 n) kept).0).1 in
-        ap as_further (sym (not_kept k es (omega (arith, four, as_many, l))))
+        omega (arith, four, as_many)
+
+    -- no edition of that number
+    pub not_there : (k : ℕ) → length es ≤ k → None ≡ as_further (edition_at (suc k) es)
+    not_there k l = ap as_further (sym (not_kept k es l))
 
     pub numbered : (k : ℕ) → k < n → {e : Edition} → (edition_kept kind (from (65 + k * 6)) ≡ true → from (65 + k * 6) ≡ some e)
-        → Further.Of e ≡ as_further (edition_at (suc k) es)
+        → Some e ≡ as_further (edition_at (suc k) es)
     numbered k l q =
         let kept : editions_kept kind (editions_in kind ws) ≡ true = ap (editions_kept kind) is ∙ h in
         let here = each_kept 65 n k l (kept_facts n (editions_in kind ws) (counted 65 n) kept).1 in
         ap as_further (sym (q here) ∙ each_in 65 n k es is l)
-
-  -- what the count makes of it
-  pub count_four : (fits : Bool) → fits ≡ (leb 1 n && leb n 4) → cond fits n 0 ≤ 4
-  count_four true e = leb-true n 4 (both (leb 1 n) (leb n 4) (sym e)).1
-  count_four false e = omega arith
-
-  pub count_most : (fits : Bool) → cond fits n 0 ≤ n
-  count_most true = le_refl n
-  count_most false = omega arith

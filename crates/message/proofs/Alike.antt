@@ -4,10 +4,10 @@ use mathlib.Core.Path.{◌≡◌, refl, sym, ap, ap₂, ◌∙◌}
 use mathlib.Core.List.{List}
 use Prim.Native.Nat.{ℕ}
 use lib.ListN.{take}
-use Rattle.framing.specs.Framing.{framing, frame_length}
-use Rattle.framing.specs.declared.Framing.{Framing}
-use Rattle.framing.specs.declared.Framing.TheVariants.{More, NoMessage, TooLong, TooShort, Frame}
-use Rattle.message.specs.Message.{part, on_reading}
+use Rattle.std.specs.Prelude.{Ok, Err}
+use Rattle.framing.specs.Framing.{Framing, framing, frame_length}
+use Rattle.framing.specs.declared.NoFrame.TheVariants.{More, NoMessage, TooLong, TooShort}
+use Rattle.message.specs.Message.{Head, part, on_reading}
 use Rattle.message.specs.StartLines.{start_line}
 use Rattle.message.specs.Reading.{read_from, read_framed, reading, read_bytes}
 use Rattle.message.proofs.Says.{told}
@@ -15,11 +15,13 @@ use Rattle.message.proofs.Parts.{reading_within}
 
 module _ (u s : List ℕ) where
   framed_alike : (x : Framing) → take (frame_length x) u ≡ take (frame_length x) s → read_framed u x ≡ read_framed s x
-  framed_alike More e = refl
-  framed_alike NoMessage e = refl
-  framed_alike TooLong e = refl
-  framed_alike TooShort e = refl
-  framed_alike (Frame a b k n) e = ap (λ f. read_from (record { stated = n; major = a; minor = b }) f (start_line k f)) e
+  framed_alike (Err More) e = refl
+  framed_alike (Err NoMessage) e = refl
+  framed_alike (Err TooLong) e = refl
+  framed_alike (Err TooShort) e = refl
+  framed_alike (Ok x) e =
+      let head : Head = record { stated = x.length; major = x.major; minor = x.minor } in
+      ap (λ f. read_from head f (start_line x.opening f)) e
 
   module _ (x : Framing) (eu : framing u ≡ x) (es : framing s ≡ x) (e : take (frame_length x) u ≡ take (frame_length x) s) where
     pub reading_alike : reading u ≡ reading s

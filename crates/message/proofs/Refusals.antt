@@ -4,9 +4,9 @@ use mathlib.Core.Path.{◌≡◌}
 use mathlib.Core.List.{List}
 use native.Mathlib.Omega.{arith}
 use lib.ListN.{take}
-use Rattle.framing.specs.Framing.{framing}
-use Rattle.framing.specs.declared.Framing.{Framing}
-use Rattle.framing.specs.declared.Framing.TheVariants.{More, NoMessage, TooLong, TooShort, Frame}
+use Rattle.std.specs.Prelude.{Ok, Err}
+use Rattle.framing.specs.Framing.{Framing, framing}
+use Rattle.framing.specs.declared.NoFrame.TheVariants.{More, NoMessage, TooLong, TooShort}
 use Rattle.message.specs.Message.{Head, Reading, refused, message, part, on_reading}
 use Rattle.message.specs.StartLines.{Started, started, start_line}
 use Rattle.message.specs.Reading.{read_from, read_framed, reading, read_bytes}
@@ -22,11 +22,11 @@ module _ (s : List ℕ) where
   from_line h f (started st at) = tt
 
   from_framing : (f : Framing) → Numbered (on_reading (part s) (read_framed s f))
-  from_framing More = (omega arith, omega arith)
-  from_framing NoMessage = (omega arith, omega arith)
-  from_framing TooLong = (omega arith, omega arith)
-  from_framing TooShort = (omega arith, omega arith)
-  from_framing (Frame a b k n) = from_line _ (take n s) (start_line k (take n s))
+  from_framing (Err More) = (omega arith, omega arith)
+  from_framing (Err NoMessage) = (omega arith, omega arith)
+  from_framing (Err TooLong) = (omega arith, omega arith)
+  from_framing (Err TooShort) = (omega arith, omega arith)
+  from_framing (Ok f) = from_line _ (take f.length s) (start_line f.opening (take f.length s))
 
   pub refused_number : (n k : ℕ) → read_bytes s ≡ refused n k → (1 ≤ n) × (n ≤ 5)
   unfolding read_bytes reading

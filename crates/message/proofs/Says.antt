@@ -9,9 +9,9 @@ use lib.ListN.{length, take}
 use lib.Seq.{length-take-le}
 use Rattle.lists.specs.Lists.{All}
 use Rattle.lists.proofs.Tests.{both}
-use Rattle.framing.specs.Framing.{framing}
-use Rattle.framing.specs.declared.Framing.{Framing}
-use Rattle.framing.specs.declared.Framing.TheVariants.{More, NoMessage, TooLong, TooShort, Frame}
+use Rattle.std.specs.Prelude.{Ok, Err}
+use Rattle.framing.specs.Framing.{Framing, Frame, framing}
+use Rattle.framing.specs.declared.NoFrame.TheVariants.{More, NoMessage, TooLong, TooShort}
 use Rattle.framing.proofs.Frames.{frame_fits}
 use Rattle.message.specs.Message.{Start, request, response, event, Field, Fields, bad, good, Head, Reading, refused, message}
 use Rattle.message.specs.Message.{InRange, part, on_field, on_reading}
@@ -90,12 +90,14 @@ told_started s h k e (started st at) (n, i, l) = record {
 }
 
 told_framed : (s : List ℕ) (x : Framing) → framing s ≡ x → Told s (read_framed s x)
-told_framed s More e = tt
-told_framed s NoMessage e = tt
-told_framed s TooLong e = tt
-told_framed s TooShort e = tt
-told_framed s (Frame a b k n) e =
-    told_started s (record { stated = n; major = a; minor = b }) k e (start_line k (take n s)) (start_line_lem k (take n s))
+told_framed s (Err More) e = tt
+told_framed s (Err NoMessage) e = tt
+told_framed s (Err TooLong) e = tt
+told_framed s (Err TooShort) e = tt
+told_framed s (Ok x) e =
+    let head : Head = record { stated = x.length; major = x.major; minor = x.minor } in
+    let frame = take x.length s in
+    told_started s head x.opening e (start_line x.opening frame) (start_line_lem x.opening frame)
 
 pub told : (s : List ℕ) → Told s (reading s)
 unfolding reading

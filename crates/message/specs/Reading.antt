@@ -1,12 +1,12 @@
 -- A message read alone: document 01, "Fields", last paragraph, and judgement 2, and document 02, K5.
 use Rattle.std.specs.Prelude.{ℕ, zero, suc, ◌-◌, Bool, true, false, ◌&&◌, ◌||◌, List, [], ◌∷◌, map, eqb, length, take, drop}
+use Rattle.std.specs.Prelude.{Ok, Err}
 use Rattle.std.proofs.Math.Option.{Option, none, some}
 use Rattle.lists.specs.Lists.{same}
 use Rattle.octets.specs.Octets.{bytes}
 use Rattle.readers.specs.Words.{is_number, number_of}
-use Rattle.framing.specs.Framing.{framing}
-use Rattle.framing.specs.declared.Framing.{Framing}
-use Rattle.framing.specs.declared.Framing.TheVariants.{More, NoMessage, TooLong, TooShort, Frame}
+use Rattle.framing.specs.Framing.{Framing, framing}
+use Rattle.framing.specs.declared.NoFrame.TheVariants.{More, NoMessage, TooLong, TooShort}
 use Rattle.message.specs.Message.{Start, request, response, event, Field, Fields, bad, good, fields_in, Head, Reading, refused, message, Message, part, on_field, on_reading}
 use Rattle.message.specs.StartLines.{Started, started, start_line}
 use Rattle.message.specs.Fields.{Lines, lines, field_lines}
@@ -44,11 +44,13 @@ read_from h f Started.malformed = refused 5 h.stated
 read_from h f (started s at) = message h s (fields_from (asks_params f s) f at)
 
 abbrev pub read_framed : List ℕ → Framing → Reading Span
-read_framed s More = refused 1 0
-read_framed s NoMessage = refused 2 0
-read_framed s TooLong = refused 3 0
-read_framed s TooShort = refused 4 0
-read_framed s (Frame major minor k n) = read_from (record { stated = n; major = major; minor = minor }) (take n s) (start_line k (take n s))
+read_framed s (Err More) = refused 1 0
+read_framed s (Err NoMessage) = refused 2 0
+read_framed s (Err TooLong) = refused 3 0
+read_framed s (Err TooShort) = refused 4 0
+read_framed s (Ok f) =
+    let frame = take f.length s in
+    read_from (record { stated = f.length; major = f.major; minor = f.minor }) frame (start_line f.opening frame)
 
 -- what the message at the front of the lent bytes says, by places in its frame
 unfoldable pub reading : List ℕ → Reading Span

@@ -1,6 +1,6 @@
 -- The numbers that are handed to C for a frame and for a message: document 01, last section. The layout is that of
 -- include/klarvesimo.h.
-use Rattle.std.specs.Prelude.{ℕ, Bool, true, false, List, [], ◌∷◌, ◌++◌, ltb, length, drop}
+use Rattle.std.specs.Prelude.{ℕ, true, false, List, [], ◌∷◌, ◌++◌, ltb, length, drop}
 use Rattle.message.specs.Message.{Start, request, response, event, Fields, bad, good, Head}
 use Rattle.message.specs.declared.Span.{Span}
 use Rattle.message.specs.declared.RequestState.{RequestState}
@@ -31,10 +31,6 @@ start_numbers major minor (request name id) = 1 ∷ major ∷ minor ∷ name.sta
 start_numbers major minor (response id status state) = 2 ∷ major ∷ minor ∷ 0 ∷ 0 ∷ id ∷ status ∷ state_number state ∷ []
 start_numbers major minor
     (event name id state) = 3 ∷ major ∷ minor ∷ name.start ∷ name.len ∷ id ∷ 0 ∷ state_number state ∷ []
-
-abbrev pub good_number : Bool → ℕ
-good_number true = 1
-good_number false = 0
 
 -- whether the fields are good, how many there are, the body, the mask of known names, three zeros; then the fields
 abbrev pub fields_numbers : List ℕ → Fields Span → List ℕ

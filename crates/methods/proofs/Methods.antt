@@ -10,7 +10,8 @@ use Rattle.message.specs.declared.RequestState.TheVariants.{Complete}
 use Rattle.answer.specs.IdList.{is_id_list}
 use Rattle.synth.specs.Channel.{View, is, is_busy, held}
 use Rattle.synth.specs.Request.{Request, acting, ignores_any}
-use Rattle.synth.specs.Judgement.{◌then◌, unless, optional, permitted, legal, of_kind, valid, content, capacity, late}
+use Rattle.synth.specs.Judgement.{◌then◌, unless, optional, permitted, legal, of_kind, is_valid, valid, content}
+use Rattle.synth.specs.Judgement.{capacity, late}
 use Rattle.synth.specs.States.{failed, succeeded, stop, barge_in, active, resume, act, after_late}
 use Rattle.synth.specs.declared.Entry.{Entry}
 use Rattle.synth.specs.declared.Method.{Method}
@@ -70,14 +71,26 @@ module _ (v : View) (major minor id : ℕ) (fs : Fields (List ℕ)) where
         go [] e = refl
         go (x ∷ queue) e = rw (e, barge_in)
 
+  -- judgement 8
+  pub not_valid : (m : Method) → is_valid m (is_busy v.state) ≡ false
+      → let r : Request = asked major minor m id fs in after_late (late v r) v r ≡ failed v r 402
+  unfolding late permitted legal of_kind valid content capacity acting unless ◌then◌
+  not_valid Method.Speak e = absurd (false≢true (sym e))
+  not_valid Method.Stop e = absurd (false≢true (sym e))
+  not_valid Method.Pause e = rw e
+  not_valid Method.Resume e = rw e
+  not_valid Method.Control e = rw e
+  not_valid Method.BargeInOccurred e = absurd (false≢true (sym e))
+  not_valid Method.Unknown e = absurd (false≢true (sym e))
+  not_valid Method.Recognize e = absurd (false≢true (sym e))
+  not_valid Method.StartInputTimers e = rw e
+  not_valid Method.SetParams e = absurd (false≢true (sym e))
+  not_valid Method.GetParams e = absurd (false≢true (sym e))
+
   -- PAUSE, CONTROL and RESUME
   module _ where
     abbrev pauses : Request
     pauses = asked major minor Method.Pause id fs
-
-    pub pause_idle : is_busy v.state ≡ false → after_late (late v pauses) v pauses ≡ failed v pauses 402
-    unfolding late permitted legal of_kind valid content capacity acting unless ◌then◌
-    pause_idle e = rw e
 
     pub pause_busy : is_busy v.state ≡ true → after_late (late v pauses) v pauses ≡ succeeded v pauses Complete (active v.queue) Paused v.queue
     unfolding late permitted legal of_kind valid content capacity acting unless ◌then◌ act
@@ -87,10 +100,6 @@ module _ (v : View) (major minor id : ℕ) (fs : Fields (List ℕ)) where
     abbrev controls : Request
     controls = asked major minor Method.Control id fs
 
-    pub control_idle : is_busy v.state ≡ false → after_late (late v controls) v controls ≡ failed v controls 402
-    unfolding late permitted legal of_kind valid content capacity acting unless ◌then◌
-    control_idle e = rw e
-
     pub control_busy : is_busy v.state ≡ true → after_late (late v controls) v controls ≡ succeeded v controls Complete (active v.queue) v.state v.queue
     unfolding late permitted legal of_kind valid content capacity acting unless ◌then◌ act
     control_busy e = rw e
@@ -98,10 +107,6 @@ module _ (v : View) (major minor id : ℕ) (fs : Fields (List ℕ)) where
   module _ where
     abbrev resumes : Request
     resumes = asked major minor Method.Resume id fs
-
-    pub resume_idle : is_busy v.state ≡ false → after_late (late v resumes) v resumes ≡ failed v resumes 402
-    unfolding late permitted legal of_kind valid content capacity acting unless ◌then◌
-    resume_idle e = rw e
 
     resuming : is_busy v.state ≡ true → after_late (late v resumes) v resumes ≡ resume v resumes
     unfolding late permitted legal of_kind valid content capacity acting unless ◌then◌ act
@@ -117,10 +122,6 @@ module _ (v : View) (major minor id : ℕ) (fs : Fields (List ℕ)) where
   module _ where
     abbrev timers : Request
     timers = asked major minor Method.StartInputTimers id fs
-
-    pub timers_idle : is_busy v.state ≡ false → after_late (late v timers) v timers ≡ failed v timers 402
-    unfolding late permitted legal of_kind valid content capacity acting unless ◌then◌
-    timers_idle e = rw e
 
     pub timers_busy : is_busy v.state ≡ true → after_late (late v timers) v timers ≡ succeeded v timers Complete [] v.state v.queue
     unfolding late permitted legal of_kind valid content capacity acting unless ◌then◌ act

@@ -15,7 +15,7 @@ use Rattle.message.specs.Folds.{joined}
 use Rattle.answer.specs.IdList.{is_id_list, ids_of}
 use Rattle.answer.proofs.Theorems.ListsJudgedAlike.{lists_alike, ids_alike}
 use Rattle.idlist.specs.Named.{bits_from, named_in}
-use Rattle.idlist.specs.declared.Which.{Which}
+use Rattle.std.proofs.Common.{Option, Some, None}
 use Rattle.synth.specs.Channel.{View, with_queue, ids}
 use Rattle.synth.specs.Request.{Request, ignores_any}
 use Rattle.synth.specs.States as S
@@ -46,8 +46,8 @@ pub named_joined : (list held : List ℕ) → named_in list held ≡ named_in (j
 unfolding named_in
 named_joined list held = go (is_id_list list) refl
   where
-    by : Bool → List ℕ → Which
-    by b ids = elim b [ true ↦ Which.Those (bits_from 0 ids (take 64 held)) | false ↦ Which.Illegal ]
+    by : Bool → List ℕ → Option ℕ
+    by b ids = elim b [ true ↦ Some (bits_from 0 ids (take 64 held)) | false ↦ None ]
 
     go : (b : Bool) → is_id_list list ≡ b
         → by (is_id_list list) (ids_of list) ≡ by (is_id_list (joined list)) (ids_of (joined list))
@@ -56,23 +56,23 @@ named_joined list held = go (is_id_list list) refl
 
 -- what the list says of the ids held
 module _ (list held : List ℕ) where
-  abbrev answered : Bool → Which
-  answered b = elim b [ true ↦ Which.Those (bits_from 0 (ids_of list) (take 64 held)) | false ↦ Which.Illegal ]
+  abbrev answered : Bool → Option ℕ
+  answered b = elim b [ true ↦ Some (bits_from 0 (ids_of list) (take 64 held)) | false ↦ None ]
 
-  pub named_illegal : {w : Which} → w ≡ named_in list held → w ≡ Which.Illegal → is_id_list list ≡ false
+  pub named_illegal : {w : Option ℕ} → w ≡ named_in list held → w ≡ None → is_id_list list ≡ false
   unfolding named_in
   named_illegal e f = go (is_id_list list) (sym e ∙ f)
     where
-      go : (b : Bool) → answered b ≡ Which.Illegal → b ≡ false
+      go : (b : Bool) → answered b ≡ None → b ≡ false
       go true e = let d : ◌≡◌ {A = ℕ} 0 1 = cc in absurd (omega arith)
       go false e = refl
 
-  pub named_those : {w : Which} (mask : ℕ) → w ≡ named_in list held → w ≡ Which.Those mask → length held ≤ 16
+  pub named_those : {w : Option ℕ} (mask : ℕ) → w ≡ named_in list held → w ≡ Some mask → length held ≤ 16
       → (is_id_list list ≡ true) × (mask ≡ bits_from 0 (ids_of list) held)
   unfolding named_in
   named_those mask e f few = go (is_id_list list) (sym e ∙ f)
     where
-      go : (b : Bool) → answered b ≡ Which.Those mask → (b ≡ true) × (mask ≡ bits_from 0 (ids_of list) held)
+      go : (b : Bool) → answered b ≡ Some mask → (b ≡ true) × (mask ≡ bits_from 0 (ids_of list) held)
       go true e =
           let same : mask ≡ bits_from 0 (ids_of list) (take 64 held) = cc in
           (refl, same ∙ ap (bits_from 0 (ids_of list)) (take_all 64 held (omega arith)))

@@ -8,6 +8,8 @@ ghost use Rattle.message.specs.Folds.{joined};
 ghost use Rattle.message.specs.declared.Known.TheVariants.{ActiveRequestIdList};
 ghost use Rattle.synth.specs.Settings.{is_edition_of};
 ghost use Rattle.synth.specs.Request.{is_params, acting, ignores_any};
+ghost use Rattle.synth.specs.Judgement.{is_valid};
+ghost use Rattle.synth.specs.Channel.{is_busy};
 ghost use Rattle.synth.specs.declared.Method.{Method};
 ghost use Rattle.queue.specs.Queue.{list_of};
 ghost use Rattle.request.specs.Telling.{Tells};
@@ -36,14 +38,10 @@ fn stop_named(
         (λ r. (ignored ≡ ignores_any r) × (some (joined v.now) ≡ acting ActiveRequestIdList r)) result }
 {
     let held = queue::list_held(q);
-    let ids = held.ids;
-    let which = idlist::named(v, &ids[..held.count]);
-    match which {
-        idlist::Which::Illegal => {
-            outcomes::failed(state, q, id, answer::Status::illegal_value())
-        }
-        idlist::Which::Those(mask) => end(state, q, mask, id, ignored),
-    }
+    let Some(mask) = idlist::named(v, &held.ids[..held.count]) else {
+        return outcomes::failed(state, q, id, answer::Status::ILLEGAL_VALUE);
+    };
+    end(state, q, mask, id, ignored)
 }
 
 // STOP: without a list all outstanding end.
@@ -58,11 +56,10 @@ fn stop(
         → Acts state q Method.Stop id (λ r. Tells false f.now h r.fields) result }
 {
     let ignored = values::meets(h.mask, names::IGNORED_IN_STOP);
-    let list = request::value(h, message::Known::ActiveRequestIdList);
-    match list {
-        values::Given::Nothing => end(state, q, queue::ALL, id, ignored),
-        values::Given::At(p) => stop_named(state, q, message::part(f, p), id, ignored),
-    }
+    let Some(p) = request::value(h, message::Known::ActiveRequestIdList) else {
+        return end(state, q, queue::ALL, id, ignored);
+    };
+    stop_named(state, q, message::part(f, p), id, ignored)
 }
 
 // BARGE-IN-OCCURRED: where the active one is killable all outstanding end, whatever their own setting.
@@ -70,39 +67,43 @@ fn barge_in(state: synth::State, q: queue::Queue, id: u32, ignored: bool) -> out
     ensures { length (list_of q) ≤ 16
         → Acts state q Method.BargeInOccurred id (λ r. ignored ≡ ignores_any r) result }
 {
-    let active = queue::active(q);
-    if active.kill {
+    if queue::active(q).kill {
         return end(state, q, queue::ALL, id, ignored);
     }
     outcomes::succeeded(id, ignored, queue::list_none(), state, q)
 }
 
-// PAUSE, CONTROL and RESUME: judgement 8.
-fn pause(state: synth::State, q: queue::Queue, id: u32, ignored: bool) -> outcomes::Outcome
-    ensures { Acts state q Method.Pause id (λ r. ignored ≡ ignores_any r) result }
+// Judgement 8: PAUSE, RESUME, CONTROL and START-INPUT-TIMERS are valid only while something is outstanding.
+fn is_valid(m: synth::Method, busy: bool) -> bool
+    ensures { result ≡ is_valid m busy }
 {
-    if !queue::is_busy(state) {
-        return outcomes::failed(state, q, id, answer::Status::not_valid_in_state());
-    }
+    busy || !matches!(
+        m,
+        synth::Method::Pause
+            | synth::Method::Resume
+            | synth::Method::Control
+            | synth::Method::StartInputTimers
+    )
+}
+
+// PAUSE, CONTROL and RESUME past judgement 8.
+// A function for each method: each promises what `Acts` says of its own method.
+fn pause(state: synth::State, q: queue::Queue, id: u32, ignored: bool) -> outcomes::Outcome
+    ensures { is_busy state ≡ true → Acts state q Method.Pause id (λ r. ignored ≡ ignores_any r) result }
+{
     outcomes::succeeded(id, ignored, queue::list_active(q), synth::State::Paused, q)
 }
 
 fn control(state: synth::State, q: queue::Queue, id: u32, ignored: bool) -> outcomes::Outcome
-    ensures { Acts state q Method.Control id (λ r. ignored ≡ ignores_any r) result }
+    ensures { is_busy state ≡ true → Acts state q Method.Control id (λ r. ignored ≡ ignores_any r) result }
 {
-    if !queue::is_busy(state) {
-        return outcomes::failed(state, q, id, answer::Status::not_valid_in_state());
-    }
     outcomes::succeeded(id, ignored, queue::list_active(q), state, q)
 }
 
 // From speaking there is no change and no list.
 fn resume(state: synth::State, q: queue::Queue, id: u32, ignored: bool) -> outcomes::Outcome
-    ensures { Acts state q Method.Resume id (λ r. ignored ≡ ignores_any r) result }
+    ensures { is_busy state ≡ true → Acts state q Method.Resume id (λ r. ignored ≡ ignores_any r) result }
 {
-    if !queue::is_busy(state) {
-        return outcomes::failed(state, q, id, answer::Status::not_valid_in_state());
-    }
     match state {
         synth::State::Paused => outcomes::succeeded(
             id,
@@ -115,19 +116,18 @@ fn resume(state: synth::State, q: queue::Queue, id: u32, ignored: bool) -> outco
     }
 }
 
-// START-INPUT-TIMERS: judgement 8; no change and no list.
+// START-INPUT-TIMERS past judgement 8: no change and no list.
 fn start_timers(state: synth::State, q: queue::Queue, id: u32, ignored: bool) -> outcomes::Outcome
-    ensures { Acts state q Method.StartInputTimers id (λ r. ignored ≡ ignores_any r) result }
+    ensures { is_busy state ≡ true
+        → Acts state q Method.StartInputTimers id (λ r. ignored ≡ ignores_any r) result }
 {
-    if !queue::is_busy(state) {
-        return outcomes::failed(state, q, id, answer::Status::not_valid_in_state());
-    }
     outcomes::succeeded(id, ignored, queue::list_none(), state, q)
 }
 
 // The request `id` with the method `m`, whose fields in the frame `f` are those of the header `h`: judgements 6 to 11,
 // on a channel of this kind, with this state and queue and the settings `set`. An array holds the ids of 16, so of a
 // queue of more, which is not sound, nothing is said; nor of settings that the kind cannot have.
+// Eight parameters: one struct of them, by reference, was tried, and took 1,400 bytes of stack more, past 6 KB.
 pub fn act(
     kind: answer::Kind,
     state: synth::State,
@@ -141,24 +141,21 @@ pub fn act(
     ensures { length (list_of q) ≤ 16 → is_edition_of kind set ≡ true → is_params m ≡ false
         → ActsOn kind set state q m id (λ r. Tells false f.now h r.fields) result }
 {
+    if !is_valid(m, queue::is_busy(state)) {
+        return outcomes::failed(state, q, id, answer::Status::NOT_VALID_IN_STATE);
+    }
     let ignored = values::meets(h.mask, names::IGNORED_ELSEWHERE);
     match m {
         synth::Method::Speak => speak::speak(kind, state, q, set, f, h, id),
+        synth::Method::Recognize => speak::recognize(kind, state, q, set, f, h, id),
         synth::Method::Stop => stop(state, q, f, h, id),
+        synth::Method::BargeInOccurred => barge_in(state, q, id, ignored),
         synth::Method::Pause => pause(state, q, id, ignored),
         synth::Method::Resume => resume(state, q, id, ignored),
         synth::Method::Control => control(state, q, id, ignored),
-        synth::Method::BargeInOccurred => barge_in(state, q, id, ignored),
-        synth::Method::Unknown => {
-            outcomes::failed(state, q, id, answer::Status::method_not_allowed())
-        }
-        synth::Method::Recognize => speak::recognize(kind, state, q, set, f, h, id),
         synth::Method::StartInputTimers => start_timers(state, q, id, ignored),
-        synth::Method::SetParams => {
-            outcomes::failed(state, q, id, answer::Status::method_not_allowed())
-        }
-        synth::Method::GetParams => {
-            outcomes::failed(state, q, id, answer::Status::method_not_allowed())
+        synth::Method::Unknown | synth::Method::SetParams | synth::Method::GetParams => {
+            outcomes::failed(state, q, id, answer::Status::METHOD_NOT_ALLOWED)
         }
     }
 }

@@ -1,9 +1,8 @@
 -- The bits of known names in a mask.
 -- Assumes nothing.
-use mathlib.Core.Path.{◌≡◌, refl, sym, ◌∙◌, ap, ap₂}
+use mathlib.Core.Path.{◌≡◌, refl, ◌∙◌, ap}
 use mathlib.Core.Bool.{Bool, true, false, not, cond, ◌&&◌, ◌||◌}
-use Prim.Native.Nat.{ℕ, ◌^◌, ◌≤◌, ◌<◌}
-use borrow.Author.Tests.{lt-ltb, le-ltb}
+use Prim.Native.Nat.{ℕ, ◌^◌, ◌<◌}
 use lib.Dec.{eqb, leb, lit<}
 use lib.Bits.{bit_and, bit_or, and_zero_r}
 use Rattle.lists.specs.Lists.{bit}
@@ -17,7 +16,7 @@ use Rattle.message.specs.declared.Known.TheVariants.{ActiveRequestIdList, KillOn
 use Rattle.message.specs.declared.Known.TheVariants.{Unknown, ConfidenceThreshold, FetchTimeout, NoInputTimeout}
 use Rattle.message.specs.declared.Known.TheVariants.{SensitivityLevel}
 use Rattle.names.specs.Names.{bit_of}
-use Rattle.names.specs.Steps.{known_names, known_bit, may_come}
+use Rattle.names.specs.Steps.{known_names, known_bit}
 
 pub index_small : (k : Known) → index_of k < 12
 index_small ChannelIdentifier = lit< tt
@@ -59,14 +58,3 @@ test_name params m k = ap (λ b. eqb (bit_and m b) 0) (known_bit_lem params k) �
 
 pub set_name : (m : ℕ) (j k : Known) → bit (bit_or m (bit_of j)) (index_of k) ≡ (is k j || bit m (index_of k))
 set_name m j k = set_any m (index_of j) (index_of k)
-
--- a field with the name k may come after n others
-module _ (params : Bool) (n mask : ℕ) (k : Known) where
-  pub may_by : n < 32 → (b : ℕ) → b ≡ bit_of k → (names : ℕ) → names ≡ known_names params
-      → eqb (bit_and mask (bit_and b names)) 0 ≡ may_come params n mask k
-  may_by h b e names d =
-      ap₂ (λ (b names : ℕ). eqb (bit_and mask (bit_and b names)) 0) e d
-      ∙ sym (ap (λ t. t && eqb (bit_and mask (known_bit params k)) 0) (lt-ltb n 32 h))
-
-  pub may_not : 32 ≤ n → false ≡ may_come params n mask k
-  may_not h = sym (ap (λ t. t && eqb (bit_and mask (known_bit params k)) 0) (le-ltb n 32 h))

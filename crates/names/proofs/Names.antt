@@ -37,13 +37,6 @@ abbrev all_names : List Known
 all_names = ChannelIdentifier ∷ ContentLength ∷ ContentType ∷ ActiveRequestIdList ∷ KillOnBargeIn ∷ ProxySyncId ∷ LoggingTag
     ∷ ConfidenceThreshold ∷ FetchTimeout ∷ NoInputTimeout ∷ SensitivityLevel ∷ []
 
--- a comparison that held, and one that did not
-pub here : (b : Bool) → b ≡ true → (k other : Known) → k ≡ or_else b k other
-here b e k other = sym (ap (λ b. or_else b k other) e)
-
-pub elsewhere : (b : Bool) → b ≡ false → (k other : Known) → other ≡ or_else b k other
-elsewhere b e k other = sym (ap (λ b. or_else b k other) e)
-
 module _ (n : List ℕ) where
   -- the first of these that the text n is
   abbrev first_of : List Known → Known

@@ -1,4 +1,3 @@
 pub mod Bits
-pub mod Classes
 pub mod Texts
 pub mod Packed

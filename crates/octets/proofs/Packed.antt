@@ -20,22 +20,6 @@ packed_drop s i k (suc n) =
     ap₂ (λ (x p : ℕ). x + 256 * p) (sym (get_or-drop i s (0 + k) 0 ∙ ap (λ j. get_or s (i + j) 0) (zero-add k)))
     (packed_drop s i (suc k) n)
 
--- four bytes, and four more behind them
-pub packed_small : (s : List ℕ) (i : ℕ) → ((i : ℕ) → get_or s i 0 < 256) → packed s i 0 4 < 4294967296
-packed_small s i g = omega (arith, g (i + 0), g (i + 1), g (i + 2), g (i + 3))
-
-packed_later : (s : List ℕ) (i j k n : ℕ) → packed s (i + j) k n ≡ packed s i (j + k) n
-packed_later s i j k zero = refl
-packed_later s i j k (suc n) =
-    let at : i + j + k ≡ i + (j + k) = omega arith in
-    let next : j + suc k ≡ suc (j + k) = omega arith in
-    ap₂ (λ (x p : ℕ). x + 256 * p) (ap (λ m. get_or s m 0) at)
-    (packed_later s i j (suc k) n ∙ ap (λ m. packed s i m n) next)
-
-pub packed_eight : (s : List ℕ) (i x y : ℕ) → x ≡ packed s i 0 4 → y ≡ packed s (i + 4) 0 4
-    → x + 4294967296 * y ≡ packed s i 0 8
-packed_eight s i x y p q = omega (arith, p, q ∙ packed_later s i 4 0 4)
-
 module _ (a b : List ℕ) where
   -- i compared, and the next n differ
   pub packed_stop : (n i : ℕ) → (packed a i 0 n ≡ packed b i 0 n → ⊥) → same (drop i a) (drop i b) ≡ false

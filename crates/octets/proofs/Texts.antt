@@ -1,14 +1,12 @@
--- Two texts compared byte by byte, as they are or capitals as small letters: one law for each way that the loop's turn
--- can go.
--- Assumes nothing.
+-- Two texts compared, as they are or capitals as small letters. Assumes nothing.
 use mathlib.Core.Path.{◌≡◌, refl, sym, ap, ◌∙◌}
 use mathlib.Core.Bool.{true, false}
 use mathlib.Core.List.{List, [], ◌∷◌}
-use Prim.Native.Nat.{ℕ, ◌+◌, ◌<◌, ◌≤◌}
+use Prim.Native.Nat.{ℕ, ◌+◌, ◌<◌}
 use native.Mathlib.Numerals.{add-one}
-use lib.ListN.{length, get_or, drop, drop_of_length-le, length-map}
+use lib.ListN.{length, get_or, drop, length-map}
 use lib.Seq.{drop-cons}
-use borrow.Author.Tests.{eq-eqb, ne_eqb}
+use borrow.Author.Tests.{eq-eqb}
 use Rattle.lists.specs.Lists.{same}
 use Rattle.lists.proofs.Tests.{refuted}
 use Rattle.lists.proofs.Scans.{same_so}
@@ -32,25 +30,6 @@ pub alike_same : (a b : List ℕ) → same a b ≡ true → alike a b ≡ true
 alike_same a b e = ap (λ s. alike s b) (same_so a b e) ∙ same_self (lower b)
 
 -- i compared: what the comparison has left
-module _ (a b : List ℕ) (i : ℕ) where
-  pub same_end : length a ≤ i → length b ≤ i → same (drop i a) (drop i b) ≡ true
-  same_end h k = rw (drop_of_length-le a h, drop_of_length-le b k)
-
-  pub same_stop : i < length a → i < length b → (get_or a i 0 ≡ get_or b i 0 → ⊥) → same (drop i a) (drop i b) ≡ false
-  same_stop h k n = rw (drop-cons a i 0 h, drop-cons b i 0 k, ne_eqb (get_or a i 0) (get_or b i 0) n)
-
-  pub same_step : i < length a → i < length b → get_or a i 0 ≡ get_or b i 0
-      → same (drop i a) (drop i b) ≡ same (drop (i + 1) a) (drop (i + 1) b)
-  same_step h k e = rw (add-one i, drop-cons a i 0 h, drop-cons b i 0 k, eq-eqb (get_or a i 0) (get_or b i 0) e)
-
-  pub alike_end : length a ≤ i → length b ≤ i → alike (drop i a) (drop i b) ≡ true
-  alike_end h k = rw (drop_of_length-le a h, drop_of_length-le b k)
-
-  pub alike_stop : i < length a → i < length b → (lowered (get_or a i 0) ≡ lowered (get_or b i 0) → ⊥)
-      → alike (drop i a) (drop i b) ≡ false
-  alike_stop h k n = rw (drop-cons a i 0 h, drop-cons b i 0 k, ne_eqb (lowered (get_or a i 0)) (lowered (get_or b i 0)) n)
-
-  pub alike_step : i < length a → i < length b → lowered (get_or a i 0) ≡ lowered (get_or b i 0)
-      → alike (drop i a) (drop i b) ≡ alike (drop (i + 1) a) (drop (i + 1) b)
-  alike_step h k e = rw
-      (add-one i, drop-cons a i 0 h, drop-cons b i 0 k, eq-eqb (lowered (get_or a i 0)) (lowered (get_or b i 0)) e)
+pub same_step : (a b : List ℕ) (i : ℕ) → i < length a → i < length b → get_or a i 0 ≡ get_or b i 0
+    → same (drop i a) (drop i b) ≡ same (drop (i + 1) a) (drop (i + 1) b)
+same_step a b i h k e = rw (add-one i, drop-cons a i 0 h, drop-cons b i 0 k, eq-eqb (get_or a i 0) (get_or b i 0) e)

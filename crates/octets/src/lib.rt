@@ -3,7 +3,8 @@
 
 ghost use Rattle.std.specs.Prelude.{◌≡◌, ◌||◌, ◌+◌, ◌≤◌, length, drop};
 ghost use Rattle.lists.specs.Lists.{same};
-ghost use Rattle.octets.specs.Octets.{is_digit, lowered as lowered_of, alike as alike_of, classes, is_capital, is_letter, within};
+ghost use Rattle.octets.specs.Octets.{is_digit, is_capital, is_letter, classes};
+ghost use Rattle.octets.specs.Octets.{lowered as lowered_of, alike as alike_of};
 ghost use Rattle.octets.specs.Steps.{packed};
 
 // The bits of a byte's class.
@@ -19,7 +20,7 @@ pub const BLANK: u8 = 16;
 
 pub const GAP: u8 = 32;
 
-// What each of the 256 bytes may be, as the sum of these bits.
+// What each of the 256 bytes may be, as the sum of these bits: document 01 asks for one constant table of 256 entries.
 const CLASS: [u8; 256] = [
     0, 0, 0, 0, 0, 0, 0, 0, 0, 56, // HT
     32, // LF
@@ -46,61 +47,35 @@ pub fn table() -> [u8; 256]
     CLASS
 }
 
-// Three tests by their bounds, where taking the table would cost more: start lines and names of channels test a few
-// bytes of a message. That the bounds say what the table says is computed over all 256 bytes.
+// Three tests without the table, where taking it would cost more: start lines and names of channels test a few bytes of
+// a message.
 pub fn is_digit(b: u8) -> bool
     ensures { result ≡ is_digit b }
 {
-    if b < 48 {
-        return false;
-    }
-    b <= 57
+    b.is_ascii_digit()
 }
 
 pub fn is_capital(b: u8) -> bool
     ensures { result ≡ is_capital b }
 {
-    if b < b'A' {
-        return false;
-    }
-    b <= b'Z'
-}
-
-fn within(from: u8, to: u8, b: u8) -> bool
-    ensures { result ≡ within from to b }
-{
-    if b < from {
-        return false;
-    }
-    b <= to
+    b.is_ascii_uppercase()
 }
 
 pub fn is_letter_or_digit(b: u8) -> bool
     ensures { result ≡ (is_letter b || is_digit b) }
 {
-    if within(b'A', b'Z', b) {
-        return true;
-    }
-    if within(b'a', b'z', b) {
-        return true;
-    }
-    within(b'0', b'9', b)
+    b.is_ascii_alphanumeric()
 }
 
 // A capital as its small letter, any other byte as it is.
 pub fn lowered(b: u8) -> u8
     ensures { result ≡ lowered_of b }
 {
-    if b < 65 {
-        return b;
-    }
-    if 90 < b {
-        return b;
-    }
-    b + 32
+    b.to_ascii_lowercase()
 }
 
-// Four bytes as one number, the first the least. The compiler makes it one load.
+// Four bytes as one number, the first the least. The compiler makes it one load. By `from_le_bytes` the bytes would be
+// indexed one by one as well.
 fn half(s: &[u8], at: usize) -> u64
     requires { at + 4 ≤ length s.now }
     ensures { result ≡ packed s.now at 0 4 }
@@ -124,12 +99,11 @@ fn equal_by_one(a: &[u8], b: &[u8], at: usize) -> bool
     requires { length a.now ≡ length b.now }
     ensures { result ≡ same (drop at a.now) (drop at b.now) }
 {
-    let mut i = at;
-    while i < a.len() {
+    // by places: only what is left from `at` on is compared
+    for i in at..a.len() {
         if a[i] != b[i] {
             return false;
         }
-        i += 1;
     }
     true
 }
@@ -148,12 +122,15 @@ fn equal_by_four(a: &[u8], b: &[u8], at: usize) -> bool
     equal_by_one(a, b, at + 4)
 }
 
+// Eight bytes at a time. `a == b` would take twice the instructions for a name of ten to twenty bytes: against a text
+// that is constant, as most are, these words are numbers, and std's comparison is not inlined.
 pub fn equal(a: &[u8], b: &[u8]) -> bool
     ensures { result ≡ same a.now b.now }
 {
     if a.len() != b.len() {
         return false;
     }
+    // a `while`: what is left goes to `equal_by_four` from `i` on, and a `for` keeps its counter
     let mut i: usize = 0;
     while 8 <= a.len() - i {
         if word(a, i) != word(b, i) {
@@ -174,16 +151,11 @@ pub fn alike(a: &[u8], b: &[u8]) -> bool
     if a.len() != b.len() {
         return false;
     }
-    let mut i: usize = 0;
-    while i < a.len() {
-        let x = a[i];
-        let y = b[i];
-        if x != y {
-            if lowered(x) != lowered(y) {
-                return false;
-            }
+    for i in 0..a.len() {
+        let (x, y) = (a[i], b[i]);
+        if x != y && lowered(x) != lowered(y) {
+            return false;
         }
-        i += 1;
     }
     true
 }

@@ -19,11 +19,9 @@ pub struct Outcome {
 pub fn failed(state: synth::State, queue: queue::Queue, id: u32, status: answer::Status) -> Outcome
     ensures { result ≡ outcome id status.code Complete no_ids state queue }
 {
-    let answer = status.complete(id);
-    let listed = queue::list_none();
     Outcome {
-        answer,
-        listed,
+        answer: status.complete(id),
+        listed: queue::list_none(),
         state,
         queue,
     }
@@ -39,10 +37,8 @@ pub fn succeeded(
 ) -> Outcome
     ensures { result ≡ outcome id (cond ignored 201 200) Complete listed state queue }
 {
-    let success = answer::Status::success(ignored);
-    let answer = success.complete(id);
     Outcome {
-        answer,
+        answer: answer::Status::success(ignored).complete(id),
         listed,
         state,
         queue,

@@ -9,12 +9,9 @@ ghost use Rattle.answer.specs.declared.Kind.{Kind};
 ghost use Rattle.sizes.specs.Steps.{telling_of};
 ghost use Rattle.output.specs.Delivery.{counted, delivered};
 
-// What a write returns: the count of bytes written, or that they are more than the lent output holds.
-#[derive(Clone, Copy)]
-pub enum Written {
-    Count(usize),
-    TooLong,
-}
+// A write is refused where its bytes are more than the lent output holds.
+#[derive(Clone, Copy, PartialEq, Eq, Debug)]
+pub struct TooLong;
 
 // Writes the response, whose size is `size`, at `at`; returns the place behind it.
 fn put_response(
@@ -38,6 +35,7 @@ fn put_response(
 }
 
 // Writes the answer that tells fields, whose size is `size`, at `at`; returns the place behind it.
+// One piece is another than in `put_response`; to hand that piece on as a function would be no plainer.
 fn put_telling(
     out: &mut [u8],
     at: usize,
@@ -58,45 +56,25 @@ fn put_telling(
     writers::put_bytes(out, told, b"\r\n")
 }
 
-// Writes the SPEAK-COMPLETE that ends request `id`, whose size is `size`, at `at`; returns the place behind it.
-fn put_speak_complete(
+// Writes the event that ends request `id`, whose size is `size`, at `at`; returns the place behind it.
+fn put_complete(
     out: &mut [u8],
     at: usize,
     size: usize,
+    kind: answer::Kind,
     name: &[u8],
     id: u32,
     cause: u32,
 ) -> usize
-    requires size_value { size ≡ length (written (ending Kind.Synthesizer name.now id cause)) }
+    requires size_value { size ≡ length (written (ending kind name.now id cause)) }
     requires size_in_bounds { at + size ≤ length out.old }
-    ensures { Wrote out.old at (written (ending Kind.Synthesizer name.now id cause))
+    ensures { Wrote out.old at (written (ending kind name.now id cause))
         out.new result }
 {
     let p = pieces::put_opening(out, at, size);
-    let q = pieces::put_speak_line(out, p, id);
+    let q = pieces::put_event_line(out, p, kind, id);
     let r = pieces::put_channel_identifier(out, q, name);
-    let caused = pieces::put_speak_cause(out, r, cause);
-    writers::put_bytes(out, caused, b"\r\n")
-}
-
-// Writes the RECOGNITION-COMPLETE that ends request `id`, whose size is `size`, at `at`; returns the place behind it.
-fn put_recognition_complete(
-    out: &mut [u8],
-    at: usize,
-    size: usize,
-    name: &[u8],
-    id: u32,
-    cause: u32,
-) -> usize
-    requires size_value { size ≡ length (written (ending Kind.Recognizer name.now id cause)) }
-    requires size_in_bounds { at + size ≤ length out.old }
-    ensures { Wrote out.old at (written (ending Kind.Recognizer name.now id cause))
-        out.new result }
-{
-    let p = pieces::put_opening(out, at, size);
-    let q = pieces::put_recognition_line(out, p, id);
-    let r = pieces::put_channel_identifier(out, q, name);
-    let caused = pieces::put_recognition_cause(out, r, cause);
+    let caused = pieces::put_cause(out, r, kind, cause);
     writers::put_bytes(out, caused, b"\r\n")
 }
 
@@ -108,77 +86,86 @@ fn put_cancelled(out: &mut [u8], at: usize, name: &[u8], ids: &[u32]) -> usize
         (written_all (map (λ i. ending Kind.Recognizer name.now i 11) ids.now))
         out.new result }
 {
+    let kind = answer::Kind::Recognizer;
     let mut p = at;
-    let mut j = 0;
-    while j < ids.len() {
-        let size = sizes::recognition_complete_size(name, ids[j], answer::CANCELLED, &out[..]);
-        p = put_recognition_complete(out, p, size, name, ids[j], answer::CANCELLED);
-        j += 1;
+    for id in ids {
+        let size = sizes::complete_size(kind, name, *id, answer::CANCELLED, &out[..]);
+        p = put_complete(out, p, size, kind, name, *id, answer::CANCELLED);
     }
     p
 }
 
 // Writes the response at the front of `out`, or nothing where it is longer than `out`.
-pub fn respond(out: &mut [u8], name: &[u8], a: answer::Answer, ids: &[u32]) -> Written
+pub fn respond(
+    out: &mut [u8],
+    name: &[u8],
+    a: answer::Answer,
+    ids: &[u32],
+) -> Result<usize, TooLong>
     ensures value { result ≡ counted (written (response_of name.now a ids.now)) out.old }
     ensures out_after { out.new
         ≡ delivered (written (response_of name.now a ids.now)) out.old }
 {
     let size = sizes::response_size(name, a, ids, &out[..]);
     if out.len() < size {
-        return Written::TooLong;
+        return Err(TooLong);
     }
     let end = put_response(out, 0, size, name, a, ids);
-    Written::Count(end)
+    Ok(end)
 }
 
 // Writes the answer that tells fields at the front of `out`, or nothing where it is longer than `out`.
-pub fn tell(out: &mut [u8], name: &[u8], a: answer::Answer, fields: &[u8]) -> Written
+pub fn tell(out: &mut [u8], name: &[u8], a: answer::Answer, fields: &[u8]) -> Result<usize, TooLong>
     ensures value { result ≡ counted (telling_of name.now a fields.now) out.old }
     ensures out_after { out.new
         ≡ delivered (telling_of name.now a fields.now) out.old }
 {
     let size = sizes::telling_size(name, a, fields, &out[..]);
     if out.len() < size {
-        return Written::TooLong;
+        return Err(TooLong);
     }
     let end = put_telling(out, 0, size, name, a, fields);
-    Written::Count(end)
+    Ok(end)
 }
 
-// Writes the SPEAK-COMPLETE that ends request `id`, or nothing where it is longer than `out`.
-pub fn speak_complete(out: &mut [u8], name: &[u8], id: u32, cause: u32) -> Written
-    ensures value { result ≡ counted (written (ending Kind.Synthesizer name.now id cause))
+// Writes the event that ends request `id` on a channel of that kind, or nothing where it is longer than `out`.
+pub fn complete(
+    out: &mut [u8],
+    kind: answer::Kind,
+    name: &[u8],
+    id: u32,
+    cause: u32,
+) -> Result<usize, TooLong>
+    ensures value { result ≡ counted (written (ending kind name.now id cause))
         out.old }
     ensures out_after { out.new
-        ≡ delivered (written (ending Kind.Synthesizer name.now id cause)) out.old }
+        ≡ delivered (written (ending kind name.now id cause)) out.old }
 {
-    let size = sizes::speak_complete_size(name, id, cause, &out[..]);
+    let size = sizes::complete_size(kind, name, id, cause, &out[..]);
     if out.len() < size {
-        return Written::TooLong;
+        return Err(TooLong);
     }
-    let end = put_speak_complete(out, 0, size, name, id, cause);
-    Written::Count(end)
+    Ok(put_complete(out, 0, size, kind, name, id, cause))
 }
 
 // Writes the RECOGNITION-COMPLETEs that end the requests, the first with `cause` and the others with 011, or nothing
 // where they are together longer than `out`.
-pub fn complete_all(out: &mut [u8], name: &[u8], ids: &[u32], cause: u32) -> Written
+pub fn complete_all(out: &mut [u8], name: &[u8], ids: &[u32], cause: u32) -> Result<usize, TooLong>
     ensures value { result ≡ counted (written_all (completes Kind.Recognizer name.now ids.now cause))
         out.old }
     ensures out_after { out.new
         ≡ delivered (written_all (completes Kind.Recognizer name.now ids.now cause))
         out.old }
 {
-    let size = sizes::complete_all_size(name, ids, cause, &out[..]);
-    if out.len() < size {
-        return Written::TooLong;
+    let all = sizes::complete_all_size(name, ids, cause, &out[..]);
+    if out.len() < all {
+        return Err(TooLong);
     }
-    if ids.len() == 0 {
-        return Written::Count(0);
-    }
-    let first = sizes::recognition_complete_size(name, ids[0], cause, &out[..]);
-    let p = put_recognition_complete(out, 0, first, name, ids[0], cause);
-    let end = put_cancelled(out, p, name, &ids[1..]);
-    Written::Count(end)
+    let Some((first, others)) = ids.split_first() else {
+        return Ok(0);
+    };
+    let kind = answer::Kind::Recognizer;
+    let size = sizes::complete_size(kind, name, *first, cause, &out[..]);
+    let p = put_complete(out, 0, size, kind, name, *first, cause);
+    Ok(put_cancelled(out, p, name, others))
 }

@@ -1,9 +1,11 @@
 -- The edition that a SET-PARAMS makes whose fields may all stand: no setting of the other kind is given, and those of
 -- its own kind are taken one after the other. Assumes nothing.
 use Prim.Native.Nat.{ℕ}
-use mathlib.Core.Path.{◌≡◌, refl, sym, ap, ◌∙◌}
+use mathlib.Core.Path.{◌≡◌, refl, sym, ap, ap₂, ◌∙◌}
 use mathlib.Core.Bool.{Bool, true, false, ◌&&◌}
-use mathlib.Core.Option.{Option, none, some}
+use mathlib.Core.Option as Spec
+use mathlib.Core.Option.{none, some}
+use Rattle.std.proofs.Common.{Option, Some, None}
 use mathlib.Core.List.{List}
 use Rattle.message.specs.Message.{Fields, fields_in}
 use Rattle.message.specs.Known.{judged_value}
@@ -24,17 +26,15 @@ use Rattle.header.specs.declared.Header.{Header}
 use Rattle.values.specs.Values.{given_of}
 use Rattle.request.specs.Telling.{Tells, value_by}
 use Rattle.outcomes.specs.Outcomes.{asked}
-use Rattle.params.specs.Steps.{taken_by, changed_as}
-use Rattle.params.specs.declared.Changed.{Changed}
-use Rattle.params.specs.declared.Taken.{Taken}
+use Rattle.params.specs.Steps.{taken_by, changed_as, ChangesTo}
 use Rattle.params.proofs.Standing.{all_stand, no_value}
 
 -- ---- one setting after the other
 
-abbrev pub with_taken : Name → Taken → Changed → Changed
-with_taken n t Changed.Illegal = Changed.Illegal
-with_taken n Taken.Illegal (Changed.To e) = Changed.Illegal
-with_taken n (Taken.As x) (Changed.To e) = Changed.To (with_slot n x e)
+abbrev pub with_taken : Name → Option Setting → Option Edition → Option Edition
+with_taken n t None = None
+with_taken n None (Some e) = None
+with_taken n (Some x) (Some e) = Some (with_slot n x e)
 
 as_it_was : (n : Name) (e : Edition) → with_slot n (slot n e) e ≡ e
 as_it_was kill_on_barge_in e = refl
@@ -44,33 +44,33 @@ as_it_was confidence_threshold e = refl
 as_it_was sensitivity_level e = refl
 
 -- what the value o, where it is given, sets in an edition
-abbrev pub taken_for : Name → Option (List ℕ) → Edition → Taken
+abbrev pub taken_for : Name → Spec.Option (List ℕ) → Edition → Option Setting
 taken_for n o before = taken_by (sort_of n) o (slot n before)
 
 -- all up to here were legal, or not
-step : (b : Bool) (n : Name) (o : Option (List ℕ)) (before e : Edition) → slot n before ≡ slot n e
+step : (b : Bool) (n : Name) (o : Spec.Option (List ℕ)) (before e : Edition) → slot n before ≡ slot n e
     → with_taken n (taken_for n o before) (changed_as (unless b 404) e)
     ≡ changed_as (unless (b && optional (is_legal n) o) 404) (set_by n o e)
 unfolding unless
-step true n none before e k = ap Changed.To (ap (λ x. with_slot n x e) k ∙ as_it_was n e)
+step true n none before e k = ap {A = Edition} {B = Option Edition} Some (ap (λ x. with_slot n x e) k ∙ as_it_was n e)
 step true n (some v) before e k = go (is_legal n v)
   where
-    go : (b : Bool) → with_taken n (elim b [ true ↦ Taken.As (setting_in n v) | false ↦ Taken.Illegal ]) (Changed.To e)
+    go : (b : Bool) → with_taken n (elim b [ true ↦ Some (setting_in n v) | false ↦ None ]) (Some e)
         ≡ changed_as (unless b 404) (with_slot n (setting_in n v) e)
     go true = refl
     go false = refl
 step false n o before e k = refl
 
 -- another setting stays
-stays : (n m : Name) (o : Option (List ℕ)) (e : Edition) → ((x : Setting) → slot m e ≡ slot m (with_slot n x e))
+stays : (n m : Name) (o : Spec.Option (List ℕ)) (e : Edition) → ((x : Setting) → slot m e ≡ slot m (with_slot n x e))
     → slot m e ≡ slot m (set_by n o e)
 stays n m none e h = refl
 stays n m (some v) e h = h (setting_in n v)
 
-abbrev pub with_two : Taken → Taken → Edition → Changed
-with_two kill fetch e = with_taken fetch_timeout fetch (with_taken kill_on_barge_in kill (Changed.To e))
+abbrev pub with_two : Option Setting → Option Setting → Edition → Option Edition
+with_two kill fetch e = with_taken fetch_timeout fetch (with_taken kill_on_barge_in kill (Some e))
 
-two : (a b : Option (List ℕ)) (e : Edition)
+two : (a b : Spec.Option (List ℕ)) (e : Edition)
     → with_two (taken_for kill_on_barge_in a e) (taken_for fetch_timeout b e) e
     ≡ changed_as (unless (optional is_flag a && optional is_millis b) 404) (set_by fetch_timeout b (set_by kill_on_barge_in a e))
 unfolding unless
@@ -79,12 +79,12 @@ two a b e =
     ∙ step (optional is_flag a) fetch_timeout b e (set_by kill_on_barge_in a e)
     (stays kill_on_barge_in fetch_timeout a e (λ x. refl))
 
-abbrev pub with_three : Taken → Taken → Taken → Edition → Changed
+abbrev pub with_three : Option Setting → Option Setting → Option Setting → Edition → Option Edition
 with_three silence confidence sensitivity e =
     with_taken sensitivity_level sensitivity
-    (with_taken confidence_threshold confidence (with_taken no_input_timeout silence (Changed.To e)))
+    (with_taken confidence_threshold confidence (with_taken no_input_timeout silence (Some e)))
 
-three : (a b d : Option (List ℕ)) (e : Edition)
+three : (a b d : Spec.Option (List ℕ)) (e : Edition)
     → with_three (taken_for no_input_timeout a e) (taken_for confidence_threshold b e) (taken_for sensitivity_level d e) e
     ≡ changed_as (unless (optional is_millis a && optional is_level b && optional is_level d) 404)
     (set_by sensitivity_level d (set_by confidence_threshold b (set_by no_input_timeout a e)))
@@ -106,7 +106,7 @@ module _ (f : List ℕ) (h : Header) (fs : Fields (List ℕ)) (w : Tells true f 
   abbrev sets : Request
   sets = asked major minor Method.SetParams id fs
 
-  abbrev given_for : Name → Option (List ℕ)
+  abbrev given_for : Name → Spec.Option (List ℕ)
   given_for n = given_of f (value_by h (field_of n))
 
   -- what the header gives is what is judged
@@ -180,3 +180,21 @@ module _ (f : List ℕ) (h : Header) (fs : Fields (List ℕ)) (w : Tells true f 
         three (given_for no_input_timeout) (given_for confidence_threshold) (given_for sensitivity_level) e
         ∙ (λ z. changed_as (legal_three z) (set_by sensitivity_level (told sensitivity_level z)
         (set_by confidence_threshold (told confidence_threshold z) (set_by no_input_timeout (told no_input_timeout z) e))))
+
+-- ---- what was taken for each, and the edition that is made of it
+
+module _ (f : List ℕ) (h : Header) (e : Edition) where
+  abbrev pub due : Name → Option Setting
+  due n = taken_for n (given_of f (value_by h (field_of n))) e
+
+  pub two_taken : {kill fetch : Option Setting} {made : Option Edition} → made ≡ with_two kill fetch e
+      → kill ≡ due kill_on_barge_in → fetch ≡ due fetch_timeout → ChangesTo Kind.Synthesizer e f h made
+  two_taken m k t = λ major minor id fs told stand.
+      m ∙ ap₂ (λ k t. with_two k t e) k t ∙ synthesizer_changes f h fs told major minor id stand e
+
+  pub three_taken : {silence confidence sensitivity : Option Setting} {made : Option Edition}
+      → made ≡ with_three silence confidence sensitivity e
+      → silence ≡ due no_input_timeout → confidence ≡ due confidence_threshold → sensitivity ≡ due sensitivity_level
+      → ChangesTo Kind.Recognizer e f h made
+  three_taken m i c s = λ major minor id fs told stand.
+      m ∙ (λ z. with_three (i z) (c z) (s z) e) ∙ recognizer_changes f h fs told major minor id stand e

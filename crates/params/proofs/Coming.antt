@@ -2,6 +2,7 @@
 use Prim.Native.Nat.{ℕ}
 use mathlib.Core.Path.{◌≡◌, refl, sym, ap, subst, ◌∙◌}
 use mathlib.Core.Bool.{Bool, true, false, false≢true}
+use Rattle.std.proofs.Common.{Option, Some, None}
 use mathlib.Core.List.{List, [], ◌∷◌, map}
 use native.Mathlib.Omega.{arith}
 use Rattle.message.specs.Message.{Fields, fields_in}
@@ -30,7 +31,6 @@ use Rattle.outcomes.specs.Outcomes.{asked, outcome, Makes}
 use Rattle.outcomes.specs.declared.Outcome.{Outcome}
 use Rattle.params.specs.Doing.{Does}
 use Rattle.params.specs.Steps.{changed_as}
-use Rattle.params.specs.declared.Changed.{Changed}
 use Rattle.params.specs.declared.Done.{Done}
 use Rattle.params.specs.declared.Effect.{Effect}
 use Rattle.params.proofs.Standing.{all_stand}
@@ -50,22 +50,25 @@ one_of Method.StartInputTimers e = absurd (false≢true e)
 one_of Method.SetParams e = refl
 one_of Method.GetParams e = refl
 
+abbrev no_edition : Option Edition
+no_edition = None
+
 -- what an edition that was not made, or was, says of judgement 6
-unmade : (b : Bool) (e : Edition) → Changed.Illegal ≡ changed_as (unless b 404) e → unless b 404 ≡ fails 404
+unmade : (b : Bool) (e : Edition) → no_edition ≡ changed_as (unless b 404) e → unless b 404 ≡ fails 404
 unfolding unless
 unmade true e h = let d : ◌≡◌ {A = ℕ} 0 1 = cc in absurd (omega arith)
 unmade false e h = refl
 
-made : (b : Bool) (s e : Edition) → Changed.To s ≡ changed_as (unless b 404) e → (unless b 404 ≡ passes) × (s ≡ e)
+made : (b : Bool) (s e : Edition) → Some s ≡ changed_as (unless b 404) e → (unless b 404 ≡ passes) × (s ≡ e)
 unfolding unless
 made true s e h = (refl, cc)
 made false s e h = let d : ◌≡◌ {A = ℕ} 0 1 = cc in absurd (omega arith)
 
-set_fails : (r : Request) (e : Edition) → Changed.Illegal ≡ changed_as (legal r) e → legal r ≡ fails 404
+set_fails : (r : Request) (e : Edition) → no_edition ≡ changed_as (legal r) e → legal r ≡ fails 404
 unfolding legal
 set_fails r e h = unmade _ e h
 
-set_passes : (r : Request) (s e : Edition) → Changed.To s ≡ changed_as (legal r) e → (legal r ≡ passes) × (s ≡ e)
+set_passes : (r : Request) (s e : Edition) → Some s ≡ changed_as (legal r) e → (legal r ≡ passes) × (s ≡ e)
 unfolding legal
 set_passes r s e h = made _ s e h
 
@@ -112,13 +115,13 @@ module _ (v : View) (state : State) (q : Queue) (k : Kind) (of : kind v ≡ k) (
         ∙ no_value_judged gets refl
 
     module _ (now : Edition) (of-now : newest v.editions ≡ now) where
-      pub set_illegal : Changed.Illegal ≡ changed_as (legal sets) (changed (settings k) sets now)
+      pub set_illegal : no_edition ≡ changed_as (legal sets) (changed (settings k) sets now)
           → after_late (late w sets) w sets ≡ failed w sets 404
       set_illegal e =
           ap (λ (l : Verdict). after_late l w sets) (set_late ∙ set_fails sets (changed (settings k) sets now) e)
 
       pub set_legal : {e : Edition} {o : Outcome} {ids : Ids}
-          → Changed.To e ≡ changed_as (legal sets) (changed (settings k) sets now)
+          → Some e ≡ changed_as (legal sets) (changed (settings k) sets now)
           → ids ≡ no_ids → o ≡ outcome id 200 Complete ids state q
           → Does w o (Effect.Set e) (after_late (late w sets) w sets)
       unfolding act

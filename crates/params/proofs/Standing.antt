@@ -17,7 +17,7 @@ use Rattle.header.specs.Header.{nowhere}
 use Rattle.header.specs.declared.Header.{Header}
 use Rattle.values.specs.Values.{given_of}
 use Rattle.values.specs.Steps.{meets}
-use Rattle.values.specs.declared.Given.{Given}
+use Rattle.std.proofs.Common.{Some, None}
 use Rattle.request.specs.Telling.{Tells}
 use Rattle.request.proofs.Telling.{each, on_each}
 use Rattle.params.specs.Steps.{forbidden_bits}
@@ -56,4 +56,4 @@ module _ (f : List ℕ) (h : Header) (fs : Fields (List ℕ)) (w : Tells true f 
         (λ j. apart (may_stand kind j) (bit (bit_of k) (index_of j)) (other j)) (names_of (fields_in fs)) stand) in
         sym (w.value k known)
         ∙ ap (λ b. given_of f
-        (elim b [ true ↦ Given.At (get_or h.values (index_of k) nowhere) | false ↦ Given.Nothing ])) unmet
+        (elim b [ true ↦ Some (get_or h.values (index_of k) nowhere) | false ↦ None ])) unmet

@@ -1,6 +1,7 @@
 -- What the steps of SET-PARAMS and GET-PARAMS find, in the types of the code.
-use Rattle.std.specs.Prelude.{ℕ, ◌≡◌, true, false, List}
-use Rattle.std.proofs.Math.Option.{Option, none, some}
+use Rattle.std.specs.Prelude.{ℕ, ◌≡◌, true, false, List, Option, Some, None}
+use Rattle.std.proofs.Math.Option as Spec
+use Rattle.std.proofs.Math.Option.{none, some}
 use Rattle.lists.specs.Lists.{all}
 use Rattle.message.specs.Message.{Fields, fields_in}
 use Rattle.message.specs.Known.{names_of}
@@ -16,22 +17,14 @@ use Rattle.synth.specs.declared.Setting.{Setting}
 use Rattle.header.specs.declared.Header.{Header}
 use Rattle.request.specs.Telling.{Tells}
 use Rattle.outcomes.specs.Outcomes.{asked}
-use Rattle.params.specs.declared.Sort.{Sort}
-use Rattle.params.specs.declared.Changed.{Changed}
-use Rattle.params.specs.declared.Taken.{Taken}
-
-abbrev pub sort_as : Sort → S.Sort
-sort_as Sort.Flag = S.flag
-sort_as Sort.Millis = S.millis
-sort_as Sort.Level = S.level
 
 -- what a value sets, where it is legal
-abbrev pub taken_in : S.Sort → List ℕ → Taken
-taken_in s v = elim (is_legal_as s v) [ true ↦ Taken.As (setting_as s v) | false ↦ Taken.Illegal ]
+abbrev pub taken_in : S.Sort → List ℕ → Option Setting
+taken_in s v = elim (is_legal_as s v) [ true ↦ Some (setting_as s v) | false ↦ None ]
 
 -- the setting as it was, where no value is given
-abbrev pub taken_by : S.Sort → Option (List ℕ) → Setting → Taken
-taken_by s none before = Taken.As before
+abbrev pub taken_by : S.Sort → Spec.Option (List ℕ) → Setting → Option Setting
+taken_by s none before = Some before
 taken_by s (some v) before = taken_in s v
 
 -- the bits of the settings of a kind, and of the fields that may not stand
@@ -44,12 +37,12 @@ forbidden_bits Kind.Synthesizer = 3468
 forbidden_bits Kind.Recognizer = 668
 
 -- an edition that is made of the settings that a request sets, or none where a value is illegal
-abbrev pub changed_as : Verdict → Edition → Changed
-changed_as passes e = Changed.To e
-changed_as (fails status) e = Changed.Illegal
+abbrev pub changed_as : Verdict → Edition → Option Edition
+changed_as passes e = Some e
+changed_as (fails status) e = None
 
 -- for every SET-PARAMS whose fields may all stand on a channel of that kind, and are told by the header h
-abbrev pub ChangesTo : Kind → Edition → List ℕ → Header → Changed → Type 0
+abbrev pub ChangesTo : Kind → Edition → List ℕ → Header → Option Edition → Type 0
 ChangesTo k now f h r =
     (major minor id : ℕ) (fs : Fields (List ℕ)) → Tells true f h fs
     → all (may_stand k) (names_of (fields_in fs)) ≡ true

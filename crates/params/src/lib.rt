@@ -1,18 +1,18 @@
 // What a SET-PARAMS or a GET-PARAMS does that passed judgement 5: document 02, K5.
 #![tactic(auto)]
 
-ghost use Rattle.std.specs.Prelude.{◌≡◌, true, List, ℕ};
+ghost use Rattle.std.specs.Prelude.{◌≡◌, true, List, ℕ, MatchOption};
+ghost use Rattle.std.specs.Fn.{FnReturnsAt};
 ghost use Rattle.answer.specs.declared.Kind.{Kind};
-ghost use Rattle.synth.specs.Settings.{settings, or_all};
+ghost use Rattle.message.specs.Message.{part};
+ghost use Rattle.synth.specs.Settings.{settings, or_all, flag, millis, level};
 ghost use Rattle.synth.specs.Request.{is_set, is_params};
 ghost use Rattle.synth.specs.declared.Edition.{Edition};
 ghost use Rattle.synth.specs.declared.Method.{Method};
-ghost use Rattle.values.specs.Values.{given_of};
 ghost use Rattle.request.specs.Telling.{Tells};
 ghost use Rattle.told.specs.Told.{told};
 ghost use Rattle.params.specs.Doing.{DoesOn, StandsOn};
-ghost use Rattle.params.specs.Steps.{sort_as, taken_in, taken_by, setting_bits, forbidden_bits, ChangesTo};
-ghost use Rattle.params.specs.declared.Sort.{Sort};
+ghost use Rattle.params.specs.Steps.{taken_in, setting_bits, forbidden_bits, ChangesTo};
 ghost use Rattle.params.specs.declared.Effect.{Effect};
 
 // What a request comes to beside its answer: nothing, a further edition, or settings that its answer tells, by the bits
@@ -30,128 +30,76 @@ pub struct Done {
     pub effect: Effect,
 }
 
-// The sorts of settings.
-#[derive(Clone, Copy)]
-enum Sort {
-    Flag,
-    Millis,
-    Level,
-}
-
-// A setting that is taken, or a value that is not legal for it.
-#[derive(Clone, Copy)]
-enum Taken {
-    Illegal,
-    As(synth::Setting),
-}
-
-// An edition that is made, or a value that is not legal.
-#[derive(Clone, Copy)]
-enum Changed {
-    Illegal,
-    To(synth::Edition),
-}
-
-// A setting as the value `v` gives it.
-fn flag_in(v: &[u8]) -> Taken
-    ensures { result ≡ taken_in (sort_as Sort.Flag) v.now }
+// A setting as the value `v` gives it; none where the value is not legal for it.
+fn flag_in(v: &[u8]) -> Option<synth::Setting>
+    ensures { result ≡ taken_in flag v.now }
 {
-    let flag = values::flag(v);
-    match flag {
-        values::Kill::Illegal => Taken::Illegal,
-        values::Kill::Of(b) => Taken::As(synth::Setting::Flag(b)),
-    }
+    Some(synth::Setting::Flag(values::flag(v)?))
 }
 
-fn millis_in(v: &[u8]) -> Taken
-    ensures { result ≡ taken_in (sort_as Sort.Millis) v.now }
+fn millis_in(v: &[u8]) -> Option<synth::Setting>
+    ensures { result ≡ taken_in millis v.now }
 {
-    let number = header::number(v);
-    match number {
-        header::Stated::None => Taken::Illegal,
-        header::Stated::Number(n) => Taken::As(synth::Setting::Millis(n)),
-    }
+    Some(synth::Setting::Millis(header::number(v)?))
 }
 
-fn level_in(v: &[u8]) -> Taken
-    ensures { result ≡ taken_in (sort_as Sort.Level) v.now }
+fn level_in(v: &[u8]) -> Option<synth::Setting>
+    ensures { result ≡ taken_in level v.now }
 {
-    let found = levels::level_in(v);
-    match found {
-        levels::Found::Illegal => Taken::Illegal,
-        levels::Found::Of(l) => Taken::As(synth::Setting::Level(l)),
-    }
+    Some(synth::Setting::Level(levels::level_in(v)?))
 }
 
-fn value_in(sort: Sort, v: &[u8]) -> Taken
-    ensures { result ≡ taken_in (sort_as sort) v.now }
+// The setting that is read at the place that is given, or as it was before.
+fn take<F: Fn(&[u8]) -> Option<synth::Setting> + Copy>(
+    read: F,
+    f: &[u8],
+    given: Option<message::Span>,
+    before: synth::Setting,
+) -> Option<synth::Setting>
+    requires { F.IsAlwaysCallable read }
+    ensures { MatchOption given (result ≡ Some before) (λ p. FnReturnsAt F.Fn read (part f.now p) result) }
 {
-    match sort {
-        Sort::Flag => flag_in(v),
-        Sort::Millis => millis_in(v),
-        Sort::Level => level_in(v),
-    }
-}
-
-// The setting that the field at `g` gives, or as it was before.
-fn take(sort: Sort, f: &[u8], g: values::Given, before: synth::Setting) -> Taken
-    ensures { result ≡ taken_by (sort_as sort) (given_of f.now g) before }
-{
-    match g {
-        values::Given::Nothing => Taken::As(before),
-        values::Given::At(p) => value_in(sort, message::part(f, p)),
-    }
+    let Some(p) = given else {
+        return Some(before);
+    };
+    read(message::part(f, p))
 }
 
 // The edition with what the fields name, all else as in `set`: all of it, or none where a value is illegal.
-fn change_synthesizer(set: synth::Edition, f: &[u8], h: header::Header) -> Changed
+fn change_synthesizer(set: synth::Edition, f: &[u8], h: header::Header) -> Option<synth::Edition>
     ensures { ChangesTo Kind.Synthesizer set f.now h result }
 {
-    let kill_before = set.kill;
     let kill_given = request::value(h, message::Known::KillOnBargeIn);
-    let kill_taken = take(Sort::Flag, f, kill_given, kill_before);
-    let fetch_before = set.fetch;
     let fetch_given = request::value(h, message::Known::FetchTimeout);
-    let fetch_taken = take(Sort::Millis, f, fetch_given, fetch_before);
-    match kill_taken {
-        Taken::Illegal => Changed::Illegal,
-        Taken::As(kill) => match fetch_taken {
-            Taken::Illegal => Changed::Illegal,
-            Taken::As(fetch) => Changed::To(synth::Edition { kill, fetch, ..set }),
-        },
-    }
+    let kill = take(flag_in, f, kill_given, set.kill)?;
+    let fetch = take(millis_in, f, fetch_given, set.fetch)?;
+    Some(synth::Edition { kill, fetch, ..set })
 }
 
-fn change_recognizer(set: synth::Edition, f: &[u8], h: header::Header) -> Changed
+// A function for each kind: the fields are named, so a list of them would be no plainer.
+fn change_recognizer(set: synth::Edition, f: &[u8], h: header::Header) -> Option<synth::Edition>
     ensures { ChangesTo Kind.Recognizer set f.now h result }
 {
-    let silence_before = set.silence;
     let silence_given = request::value(h, message::Known::NoInputTimeout);
-    let silence_taken = take(Sort::Millis, f, silence_given, silence_before);
-    let confidence_before = set.confidence;
     let confidence_given = request::value(h, message::Known::ConfidenceThreshold);
-    let confidence_taken = take(Sort::Level, f, confidence_given, confidence_before);
-    let sensitivity_before = set.sensitivity;
     let sensitivity_given = request::value(h, message::Known::SensitivityLevel);
-    let sensitivity_taken = take(Sort::Level, f, sensitivity_given, sensitivity_before);
-    match silence_taken {
-        Taken::Illegal => Changed::Illegal,
-        Taken::As(silence) => match confidence_taken {
-            Taken::Illegal => Changed::Illegal,
-            Taken::As(confidence) => match sensitivity_taken {
-                Taken::Illegal => Changed::Illegal,
-                Taken::As(sensitivity) => Changed::To(synth::Edition {
-                    silence,
-                    confidence,
-                    sensitivity,
-                    ..set
-                }),
-            },
-        },
-    }
+    let silence = take(millis_in, f, silence_given, set.silence)?;
+    let confidence = take(level_in, f, confidence_given, set.confidence)?;
+    let sensitivity = take(level_in, f, sensitivity_given, set.sensitivity)?;
+    Some(synth::Edition {
+        silence,
+        confidence,
+        sensitivity,
+        ..set
+    })
 }
 
-fn change(kind: answer::Kind, set: synth::Edition, f: &[u8], h: header::Header) -> Changed
+fn change(
+    kind: answer::Kind,
+    set: synth::Edition,
+    f: &[u8],
+    h: header::Header,
+) -> Option<synth::Edition>
     ensures { ChangesTo kind set f.now h result }
 {
     match kind {
@@ -182,19 +130,7 @@ fn forbidden_bits(kind: answer::Kind) -> u16
 fn is_set(m: synth::Method) -> bool
     ensures { result ≡ is_set m }
 {
-    match m {
-        synth::Method::Speak => false,
-        synth::Method::Stop => false,
-        synth::Method::Pause => false,
-        synth::Method::Resume => false,
-        synth::Method::Control => false,
-        synth::Method::BargeInOccurred => false,
-        synth::Method::Unknown => false,
-        synth::Method::Recognize => false,
-        synth::Method::StartInputTimers => false,
-        synth::Method::SetParams => true,
-        synth::Method::GetParams => false,
-    }
+    matches!(m, synth::Method::SetParams)
 }
 
 // An answer alone.
@@ -219,16 +155,12 @@ fn set_params(
 ) -> Done
     ensures { StandsOn kind set state q Method.SetParams id f.now h result }
 {
-    let to = change(kind, set, f, h);
-    match to {
-        Changed::Illegal => plain(outcomes::failed(state, q, id, answer::Status::illegal_value())),
-        Changed::To(e) => {
-            let outcome = outcomes::succeeded(id, false, queue::list_none(), state, q);
-            Done {
-                outcome,
-                effect: Effect::Set(e),
-            }
-        }
+    let Some(edition) = change(kind, set, f, h) else {
+        return plain(outcomes::failed(state, q, id, answer::Status::ILLEGAL_VALUE));
+    };
+    Done {
+        outcome: outcomes::succeeded(id, false, queue::list_none(), state, q),
+        effect: Effect::Set(edition),
     }
 }
 
@@ -253,11 +185,9 @@ fn get_params(
 ) -> Done
     ensures { (set : Edition) (f : List ℕ) → StandsOn kind set state q Method.GetParams id f h result }
 {
-    let asked = asked_by(kind, h.mask);
-    let outcome = outcomes::succeeded(id, false, queue::list_none(), state, q);
     Done {
-        outcome,
-        effect: Effect::Tell(asked),
+        outcome: outcomes::succeeded(id, false, queue::list_none(), state, q),
+        effect: Effect::Tell(asked_by(kind, h.mask)),
     }
 }
 
@@ -277,7 +207,7 @@ pub fn act(
         → DoesOn kind set state q m id (λ r. Tells true f.now h r.fields) result }
 {
     if values::meets(h.mask, forbidden_bits(kind)) {
-        return plain(outcomes::failed(state, q, id, answer::Status::unsupported_field()));
+        return plain(outcomes::failed(state, q, id, answer::Status::UNSUPPORTED_FIELD));
     }
     if is_set(m) {
         return set_params(kind, state, q, set, f, h, id);

@@ -2,8 +2,8 @@
 // written".
 #![tactic(auto)]
 
-ghost use Rattle.std.specs.Prelude.{[], ◌++◌, ◌+◌, ◌≤◌, length, get_or};
-ghost use Rattle.octets.specs.Octets.{bytes, crlf};
+ghost use Rattle.std.specs.Prelude.{◌++◌, ◌+◌, ◌≤◌, length};
+ghost use Rattle.octets.specs.Octets.{crlf};
 ghost use Rattle.writers.specs.Decimal.{width};
 ghost use Rattle.writers.specs.Buffer.{Wrote};
 ghost use Rattle.message.specs.Message.{response as response_line, event as event_line};
@@ -15,10 +15,8 @@ ghost use Rattle.answer.specs.Answers.{
   channel_identifier,
   active_request_id_list,
   event_name,
-  cause_names,
   completion_cause,
 };
-ghost use Rattle.answer.specs.declared.Kind.{Kind};
 ghost use Rattle.pieces.specs.Steps.{opening_text};
 
 fn put_state(out: &mut [u8], at: usize, state: message::RequestState) -> usize
@@ -48,35 +46,24 @@ pub fn put_response_line(out: &mut [u8], at: usize, a: answer::Answer) -> usize
     ensures { Wrote out.old at (start_text (response_line a.id a.status.code a.state) ++ crlf)
         out.new result }
 {
-    let state = a.state;
-    let p = writers::put_digits(out, at, a.id as u64);
+    let p = writers::put_digits(out, at, u64::from(a.id));
     let q = writers::put_bytes(out, p, b" ");
     let r = writers::put_three(out, q, a.status.code);
     let s = writers::put_bytes(out, r, b" ");
-    let t = put_state(out, s, state);
+    let t = put_state(out, s, a.state);
     writers::put_bytes(out, t, b"\r\n")
 }
 
-// The rest of the start line of SPEAK-COMPLETE.
-pub fn put_speak_line(out: &mut [u8], at: usize, id: u32) -> usize
-    requires { at + (26 + width id) ≤ length out.old }
+// The rest of the start line of the event that ends request `id`.
+pub fn put_event_line(out: &mut [u8], at: usize, kind: answer::Kind, id: u32) -> usize
+    requires { at + (12 + length (event_name kind) + width id) ≤ length out.old }
     ensures { Wrote out.old at
-        (start_text (event_line (event_name Kind.Synthesizer) id RequestState.Complete) ++ crlf) out.new result }
+        (start_text (event_line (event_name kind) id RequestState.Complete) ++ crlf) out.new result }
 {
-    let p = writers::put_bytes(out, at, b"SPEAK-COMPLETE ");
-    let q = writers::put_digits(out, p, id as u64);
-    writers::put_bytes(out, q, b" COMPLETE\r\n")
-}
-
-// The rest of the start line of RECOGNITION-COMPLETE.
-pub fn put_recognition_line(out: &mut [u8], at: usize, id: u32) -> usize
-    requires { at + (32 + width id) ≤ length out.old }
-    ensures { Wrote out.old at
-        (start_text (event_line (event_name Kind.Recognizer) id RequestState.Complete) ++ crlf) out.new result }
-{
-    let p = writers::put_bytes(out, at, b"RECOGNITION-COMPLETE ");
-    let q = writers::put_digits(out, p, id as u64);
-    writers::put_bytes(out, q, b" COMPLETE\r\n")
+    let p = writers::put_bytes(out, at, answer::event_name(kind));
+    let q = writers::put_bytes(out, p, b" ");
+    let r = writers::put_digits(out, q, u64::from(id));
+    writers::put_bytes(out, r, b" COMPLETE\r\n")
 }
 
 pub fn put_channel_identifier(out: &mut [u8], at: usize, name: &[u8]) -> usize
@@ -95,11 +82,9 @@ fn put_behind_commas(out: &mut [u8], at: usize, ids: &[u32]) -> usize
     ensures { Wrote out.old at (behind_commas ids.now) out.new result }
 {
     let mut p = at;
-    let mut j = 0;
-    while j < ids.len() {
+    for id in ids {
         p = writers::put_bytes(out, p, b",");
-        p = writers::put_digits(out, p, ids[j] as u64);
-        j += 1;
+        p = writers::put_digits(out, p, u64::from(*id));
     }
     p
 }
@@ -110,59 +95,23 @@ pub fn put_id_list(out: &mut [u8], at: usize, ids: &[u32]) -> usize
     ensures { Wrote out.old at (fields_text (active_request_id_list ids.now))
         out.new result }
 {
-    if ids.len() == 0 {
+    let Some((first, others)) = ids.split_first() else {
         return at;
-    }
+    };
     let p = writers::put_bytes(out, at, b"Active-Request-Id-List:");
-    let q = writers::put_digits(out, p, ids[0] as u64);
-    let r = put_behind_commas(out, q, &ids[1..]);
+    let q = writers::put_digits(out, p, u64::from(*first));
+    let r = put_behind_commas(out, q, others);
     writers::put_bytes(out, r, b"\r\n")
 }
 
-// The name of a synthesizer's cause; nothing where there is no such cause.
-fn put_speak_name(out: &mut [u8], at: usize, cause: u32) -> usize
-    requires { at + length (get_or (cause_names Kind.Synthesizer) cause []) ≤ length out.old }
-    ensures { Wrote out.old at (get_or (cause_names Kind.Synthesizer) cause []) out.new result }
-{
-    let names = answer::synthesizer_causes();
-    let place = answer::synthesizer_place(cause);
-    let start = place.start;
-    let end = start + place.len;
-    writers::put_bytes(out, at, &names[start..end])
-}
-
-// The cause of SPEAK-COMPLETE.
-pub fn put_speak_cause(out: &mut [u8], at: usize, cause: u32) -> usize
-    requires { at + (19 + length (completion_cause Kind.Synthesizer cause).value) ≤ length out.old }
-    ensures { Wrote out.old at (field_text (completion_cause Kind.Synthesizer cause)) out.new result }
+// The cause of the event that ends a request; no name where there is no such cause.
+pub fn put_cause(out: &mut [u8], at: usize, kind: answer::Kind, cause: u32) -> usize
+    requires { at + (19 + length (completion_cause kind cause).value) ≤ length out.old }
+    ensures { Wrote out.old at (field_text (completion_cause kind cause)) out.new result }
 {
     let p = writers::put_bytes(out, at, b"Completion-Cause:");
     let q = writers::put_three(out, p, cause);
     let r = writers::put_bytes(out, q, b" ");
-    let s = put_speak_name(out, r, cause);
-    writers::put_bytes(out, s, b"\r\n")
-}
-
-// The name of a recognizer's cause; nothing where there is no such cause.
-fn put_recognition_name(out: &mut [u8], at: usize, cause: u32) -> usize
-    requires { at + length (get_or (cause_names Kind.Recognizer) cause []) ≤ length out.old }
-    ensures { Wrote out.old at (get_or (cause_names Kind.Recognizer) cause []) out.new result }
-{
-    let names = answer::recognizer_causes();
-    let place = answer::recognizer_place(cause);
-    let start = place.start;
-    let end = start + place.len;
-    writers::put_bytes(out, at, &names[start..end])
-}
-
-// The cause of RECOGNITION-COMPLETE.
-pub fn put_recognition_cause(out: &mut [u8], at: usize, cause: u32) -> usize
-    requires { at + (19 + length (completion_cause Kind.Recognizer cause).value) ≤ length out.old }
-    ensures { Wrote out.old at (field_text (completion_cause Kind.Recognizer cause)) out.new result }
-{
-    let p = writers::put_bytes(out, at, b"Completion-Cause:");
-    let q = writers::put_three(out, p, cause);
-    let r = writers::put_bytes(out, q, b" ");
-    let s = put_recognition_name(out, r, cause);
+    let s = writers::put_bytes(out, r, answer::cause_name(kind, cause));
     writers::put_bytes(out, s, b"\r\n")
 }

@@ -97,6 +97,9 @@ module _ (q : Queue) where
   unfolding list_of
   within h = let z : q.count - 16 ≡ 0 = omega arith in rw (z, append-nil)
 
+  pub held_ids : (vs : List Val) → Is the_row q vs → q.count ≤ 16 → ids (list_of q) ≡ ids_in (take q.count q.numbers)
+  held_ids vs good h = ap ids (within h) ∙ entry_ids q.count q.numbers q.thresholds (as_many q vs good)
+
   pub none_in : q.count ≡ 0 → list_of q ≡ []
   none_in z = rw (within (omega arith), z)
 

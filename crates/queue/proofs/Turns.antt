@@ -26,16 +26,17 @@ module _ {A : Type 0} (l : List A) (n i : ℕ) where
   none_left h = drop_of_length-le (take n l) {i = i} (simp length-take (omega arith))
 
 -- the ids so far rise, and the next is to be at least `from`
-module _ (numbers : List ℕ) (n i from end : ℕ) where
-  pub rising_stop : i < n → n ≤ length numbers → id_in (get_or numbers i 0) < from → ascends from (ids_in (drop i (take n numbers))) end ≡ false
-  rising_stop h k s = rw (take_left numbers n i 0 h k, lt-leb from (id_in (get_or numbers i 0)) s)
+module _ (numbers : List ℕ) (i from end : ℕ) where
+  pub rising_stop : i < length numbers → id_in (get_or numbers i 0) < from → ascends from (ids_in (drop i numbers)) end ≡ false
+  rising_stop h s = rw (drop-cons numbers i 0 h, lt-leb from (id_in (get_or numbers i 0)) s)
 
-  pub rising_more : i < n → n ≤ length numbers → from ≤ id_in (get_or numbers i 0)
-      → ascends from (ids_in (drop i (take n numbers))) end ≡ ascends (id_in (get_or numbers i 0) + 1) (ids_in (drop (i + 1) (take n numbers))) end
-  rising_more h k s = rw (take_left numbers n i 0 h k, le-leb from (id_in (get_or numbers i 0)) s, add-one (id_in (get_or numbers i 0)))
+  pub rising_more : i < length numbers → from ≤ id_in (get_or numbers i 0)
+      → ascends from (ids_in (drop i numbers)) end ≡ ascends (id_in (get_or numbers i 0) + 1) (ids_in (drop (i + 1) numbers)) end
+  rising_more h s =
+      rw (add-one i, drop-cons numbers i 0 h, le-leb from (id_in (get_or numbers i 0)) s, add-one (id_in (get_or numbers i 0)))
 
-  pub rising_done : n ≤ i → ascends from (ids_in (drop i (take n numbers))) end ≡ leb from end
-  rising_done h = rw (none_left numbers n i h)
+  pub rising_done : length numbers ≤ i → ascends from (ids_in (drop i numbers)) end ≡ leb from end
+  rising_done h = rw (drop_of_length-le numbers {i = i} h)
 
 -- one id more
 pub ids_more : (numbers l : List ℕ) (i : ℕ) → i < length numbers → i < length l → take i l ≡ ids_in (take i numbers)

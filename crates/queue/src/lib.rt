@@ -8,7 +8,7 @@ ghost use Rattle.synth.specs.Channel.{is_busy, ids as ids_of};
 ghost use Rattle.synth.specs.States.{while_any, active as active_in};
 ghost use Rattle.synth.specs.Calls.{awaits};
 ghost use Rattle.synth.specs.declared.Entry.{Entry};
-ghost use Rattle.queue.specs.Queue.{id_in, kill_in, level_in, list_of, is_synthesizer, fits_in, empty_queue, first, no_ids, Lists, Ends};
+ghost use Rattle.queue.specs.Queue.{id_in, kill_in, level_in, list_of, fits_in, empty_queue, first, no_ids, Lists, Ends};
 
 // How many may be outstanding: SPEAKs, and RECOGNIZEs.
 pub const MOST: usize = 16;
@@ -16,9 +16,10 @@ pub const MOST: usize = 16;
 pub const MOST_RECOGNIZED: usize = 8;
 
 // The outstanding SPEAKs or RECOGNIZEs, the active one first: the first `count` of `numbers`, with the thresholds
-// beside. A number is an id doubled, and one more where barge-in kills the request: an array of numbers is cleared and
-// moved as a whole, one of structs field by field. The count stands between the arrays: side by side they would be
-// moved as one, by a call, and a synthesizer's thresholds could not be left out.
+// beside. A number is an id doubled, and one more where barge-in kills the request. Two arrays, with the count between
+// them, and none of entries: there is no heap, and entries were tried and too slow (docs/PERFORMANCE.md, "What was
+// tried").
+// No invariant says that the count is within: loading builds a queue of 17 on purpose, which no sound channel has.
 #[derive(Clone, Copy)]
 pub struct Queue {
     pub numbers: [u64; MOST],
@@ -27,6 +28,7 @@ pub struct Queue {
 }
 
 // Ids that an answer lists: the first `count` of `ids`.
+// An array and a count: there is no heap, and an outcome goes by value.
 #[derive(Clone, Copy)]
 pub struct Ids {
     pub ids: [u32; MOST],
@@ -70,12 +72,7 @@ pub fn level_in(n: u32) -> u32
 fn number(e: synth::Entry) -> u64
     ensures { (id_in result ≡ e.id) × (kill_in result ≡ e.kill) }
 {
-    let id = e.id as u64;
-    let kill = e.kill;
-    if kill {
-        return id * 2 + 1;
-    }
-    id * 2
+    u64::from(e.id) * 2 + u64::from(e.kill)
 }
 
 pub fn most(kind: answer::Kind) -> usize
@@ -91,60 +88,14 @@ pub fn most(kind: answer::Kind) -> usize
 pub fn is_busy(s: synth::State) -> bool
     ensures { result ≡ is_busy s }
 {
-    match s {
-        synth::State::Idle => false,
-        synth::State::Speaking => true,
-        synth::State::Paused => true,
-        synth::State::Recognizing => true,
-        synth::State::Recognized => false,
-    }
+    !matches!(s, synth::State::Idle | synth::State::Recognized)
 }
 
 // Whether the engine may report in this state.
 pub fn awaits(s: synth::State) -> bool
     ensures { result ≡ awaits s }
 {
-    match s {
-        synth::State::Idle => false,
-        synth::State::Speaking => true,
-        synth::State::Paused => false,
-        synth::State::Recognizing => true,
-        synth::State::Recognized => false,
-    }
-}
-
-fn is_synthesizer(kind: answer::Kind) -> bool
-    ensures { result ≡ is_synthesizer kind }
-{
-    match kind {
-        answer::Kind::Synthesizer => true,
-        answer::Kind::Recognizer => false,
-    }
-}
-
-// Whether a channel of that kind can be in this state with none outstanding, and with some.
-fn fits_none(kind: answer::Kind, s: synth::State) -> bool
-    ensures { result ≡ fits_in kind s true }
-{
-    match s {
-        synth::State::Idle => true,
-        synth::State::Speaking => false,
-        synth::State::Paused => false,
-        synth::State::Recognizing => false,
-        synth::State::Recognized => !is_synthesizer(kind),
-    }
-}
-
-fn fits_some(kind: answer::Kind, s: synth::State) -> bool
-    ensures { result ≡ fits_in kind s false }
-{
-    match s {
-        synth::State::Idle => false,
-        synth::State::Speaking => is_synthesizer(kind),
-        synth::State::Paused => is_synthesizer(kind),
-        synth::State::Recognizing => !is_synthesizer(kind),
-        synth::State::Recognized => false,
-    }
+    matches!(s, synth::State::Speaking | synth::State::Recognizing)
 }
 
 // Whether the state is one of that kind, and one in which none are outstanding, or some, as it is: both tests in one
@@ -152,10 +103,12 @@ fn fits_some(kind: answer::Kind, s: synth::State) -> bool
 pub fn fits(kind: answer::Kind, s: synth::State, none: bool) -> bool
     ensures { result ≡ fits_in kind s none }
 {
-    if none {
-        return fits_none(kind, s);
+    match (kind, s) {
+        (_, synth::State::Idle) | (answer::Kind::Recognizer, synth::State::Recognized) => none,
+        (answer::Kind::Synthesizer, synth::State::Speaking | synth::State::Paused) => !none,
+        (answer::Kind::Recognizer, synth::State::Recognizing) => !none,
+        _ => false,
     }
-    fits_some(kind, s)
 }
 
 pub fn empty() -> Queue
@@ -189,16 +142,15 @@ pub fn is_rising(kind: answer::Kind, q: Queue, end: u64) -> bool
     if most(kind) < count {
         return false;
     }
+    // the array alone: a place in the queue that is found by a number would cost a copy of all of it, here and below
     let numbers = q.numbers;
-    let mut from: u64 = 0;
-    let mut i: usize = 0;
-    while i < count {
-        let id = id_in(numbers[i]) as u64;
+    let mut from = 0;
+    for n in &numbers[..count] {
+        let id = u64::from(id_in(*n));
         if id < from {
             return false;
         }
         from = id + 1;
-        i += 1;
     }
     from <= end
 }
@@ -230,13 +182,11 @@ pub fn active(q: Queue) -> synth::Entry
     if q.count == 0 {
         return NO_ENTRY;
     }
-    let numbers = q.numbers;
-    let n = numbers[0];
-    let thresholds = q.thresholds;
+    let n = q.numbers[0];
     synth::Entry {
         id: id_in(n),
         kill: kill_in(n),
-        threshold: level_in(thresholds[0]),
+        threshold: level_in(q.thresholds[0]),
     }
 }
 
@@ -244,10 +194,7 @@ pub fn active(q: Queue) -> synth::Entry
 pub fn while_any(last: synth::State, state: synth::State, q: Queue) -> synth::State
     ensures { result ≡ while_any last state (list_of q) }
 {
-    if q.count == 0 {
-        return last;
-    }
-    state
+    if q.count == 0 { last } else { state }
 }
 
 // Nothing is listed.
@@ -267,9 +214,8 @@ pub fn list_active(q: Queue) -> Ids
     if q.count == 0 {
         return list_none();
     }
-    let numbers = q.numbers;
-    let mut ids = [0u32; MOST];
-    ids[0] = id_in(numbers[0]);
+    let mut ids = [0; MOST];
+    ids[0] = id_in(q.numbers[0]);
     Ids { ids, count: 1 }
 }
 
@@ -283,11 +229,9 @@ pub fn list_held(q: Queue) -> Ids
         return list_none();
     }
     let numbers = q.numbers;
-    let mut ids = [0u32; MOST];
-    let mut i: usize = 0;
-    while i < count {
+    let mut ids = [0; MOST];
+    for i in 0..count {
         ids[i] = id_in(numbers[i]);
-        i += 1;
     }
     Ids { ids, count }
 }
@@ -303,6 +247,7 @@ fn bit(mask: u64, j: usize) -> bool
 pub fn without_active(q: Queue) -> Queue
     ensures { (e : Entry) (queue : List Entry) → list_of q ≡ e ∷ queue → length queue < 16 → list_of result ≡ queue }
 {
+    // two tests: joined, they cost a report ten instructions more
     if q.count == 0 {
         return q;
     }
@@ -312,13 +257,11 @@ pub fn without_active(q: Queue) -> Queue
     let left = q.count - 1;
     let old = q.numbers;
     let levels = q.thresholds;
-    let mut numbers = [0u64; MOST];
-    let mut thresholds = [0u32; MOST];
-    let mut i: usize = 0;
-    while i < left {
+    let mut numbers = [0; MOST];
+    let mut thresholds = [0; MOST];
+    for i in 0..left {
         numbers[i] = old[i + 1];
         thresholds[i] = levels[i + 1];
-        i += 1;
     }
     Queue {
         numbers,
@@ -344,24 +287,21 @@ pub fn end(q: Queue, mask: u64) -> Ended
     }
     let old = q.numbers;
     let levels = q.thresholds;
-    let mut numbers = [0u64; MOST];
-    let mut thresholds = [0u32; MOST];
-    let mut left: usize = 0;
-    let mut ids = [0u32; MOST];
-    let mut gone: usize = 0;
-    let mut i: usize = 0;
-    while i < count {
+    let mut numbers = [0; MOST];
+    let mut thresholds = [0; MOST];
+    let mut left = 0;
+    let mut ids = [0; MOST];
+    let mut gone = 0;
+    for i in 0..count {
         let n = old[i];
-        let level = levels[i];
         let ends = bit(mask, i);
-        i += 1;
         if ends {
             ids[gone] = id_in(n);
             gone += 1;
             continue;
         }
         numbers[left] = n;
-        thresholds[left] = level;
+        thresholds[left] = levels[i];
         left += 1;
     }
     let listed = Ids { ids, count: gone };

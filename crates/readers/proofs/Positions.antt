@@ -40,14 +40,8 @@ module _ (test : ℕ → Bool) (s : List ℕ) (i : ℕ) where
   run_step h e = rw (here s i h) (omega (arith, run_yes test (get_or s i 0) (drop (i + 1) s) e))
 
 module _ (s : List ℕ) (i : ℕ) where
-  pub starts_end : (b : ℕ) → length s ≤ i → starts b (drop i s) ≡ false
-  starts_end b h = rw (drop_of_length-le s h)
-
   pub starts_here : (b : ℕ) → i < length s → starts b (drop i s) ≡ eqb (get_or s i 0) b
   starts_here b h = rw (here s i h)
-
-  pub crlf_end : length s ≤ i → is_crlf (drop i s) ≡ false
-  crlf_end h = rw (drop_of_length-le s h)
 
   pub crlf_no : i < length s → eqb (get_or s i 0) 13 ≡ false → is_crlf (drop i s) ≡ false
   crlf_no h e = rw (here s i h) (ap (λ b. b && starts 10 (drop (i + 1) s)) e)
@@ -61,6 +55,10 @@ starts_in b [] zero e = absurd (false≢true e)
 starts_in b [] (suc i) e = absurd (false≢true e)
 starts_in b (x ∷ s) zero e = omega arith
 starts_in b (x ∷ s) (suc i) e = omega (arith, starts_in b s i e)
+
+-- CRLF, where the CR is known to stand
+pub crlf_from : (s : List ℕ) (i : ℕ) → starts 13 (drop i s) ≡ true → is_crlf (drop i s) ≡ starts 10 (drop (i + 1) s)
+crlf_from s i e = let h = starts_in 13 s i e in crlf_next s i h (sym (starts_here s i 13 h) ∙ e)
 
 pub crlf_in : (s : List ℕ) (i : ℕ) → is_crlf (drop i s) ≡ true → i + 1 < length s
 crlf_in [] zero e = absurd (false≢true e)

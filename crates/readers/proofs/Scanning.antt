@@ -1,35 +1,55 @@
--- How a text goes on at a position of the bytes: one law for each way that a turn of a loop can go.
--- Assumes nothing.
-use mathlib.Core.Path.{◌≡◌, refl, sym, ap, ◌∙◌}
-use mathlib.Core.List.{List}
-use Prim.Native.Nat.{ℕ, ◌+◌, ◌<◌, ◌≤◌}
-use native.Mathlib.Nat.{add_assoc, add-zero}
-use lib.ListN.{length, get_or, drop, drop_of_length-le}
-use borrow.Author.Tests.{eq-eqb, ne_eqb}
+-- What `text` reads, by which of the text and the bytes begins with the other. Assumes nothing.
+use mathlib.Core.Path.{◌≡◌, refl, sym, ap, ap₂, ◌∙◌}
+use mathlib.Core.Bool.{Bool, true, false}
+use mathlib.Core.List.{List, [], ◌∷◌}
+use Prim.Native.Nat.{ℕ, suc, ◌-◌, min}
+use native.Mathlib.Numerals.{one-add}
+use native.Mathlib.Omega.{arith}
 use lib.Dec.{eqb}
+use lib.ListN.{length, take, drop, length-drop}
+use lib.Seq.{take_all}
+use borrow.Author.Tests.{eq-eqb, ne_eqb, eqb-true, eqb-false}
+use Rattle.std.specs.List.{starts_with}
+use Rattle.std.proofs.lemmas.List.{drop_min}
 use Rattle.readers.specs.Readers.{Read, short, wrong, got, after, text}
 use Rattle.readers.specs.Steps.{placed}
-use Rattle.readers.specs.declared.Place.{Place}
-use Rattle.readers.proofs.Steps.{yes_at, no_at}
-use Rattle.readers.proofs.Positions.{here}
+use Rattle.readers.proofs.Steps.{byte_yes, byte_no}
 
-placed_after : (i : ℕ) (r : Read (Unit {0})) → placed i (after 1 r) ≡ placed (i + 1) r
-placed_after i short = refl
-placed_after i wrong = refl
-placed_after i (got u n) = ap Place.At (sym (add_assoc i 1 n))
+-- what is read of n bytes, by whether they stand there, and whether all that stands there begins them
+abbrev pub read_by : ℕ → Bool → Bool → Read (Unit {0})
+read_by n true begins = got tt n
+read_by n false true = short
+read_by n false false = wrong
 
--- a text, of which k bytes have been read
-module _ (s t : List ℕ) (i k : ℕ) where
-  pub text_end : length t ≤ k → placed i (text (drop k t) (drop i s)) ≡ Place.At i
-  text_end h = rw (drop_of_length-le t h) (ap Place.At (add-zero i))
+after_one : (n : ℕ) (stands begins : Bool) → after 1 (read_by n stands begins) ≡ read_by (suc n) stands begins
+after_one n true begins = ap (got tt) (one-add n)
+after_one n false true = refl
+after_one n false false = refl
 
-  pub text_short : k < length t → length s ≤ i → placed i (text (drop k t) (drop i s)) ≡ Place.Short
-  text_short h l = rw (here t k h, drop_of_length-le s l)
+text_by : (t l : List ℕ) → text t l ≡ read_by (length t) (starts_with eqb l t) (starts_with eqb t l)
+text_by [] l = refl
+text_by (b ∷ t) [] = refl
+text_by (b ∷ t) (x ∷ l) = go (text_by t l) (eqb b x) refl
+  where
+    go : text t l ≡ read_by (length t) (starts_with eqb l t) (starts_with eqb t l) → (c : Bool) → eqb b x ≡ c
+        → text (b ∷ t) (x ∷ l)
+        ≡ read_by (suc (length t)) (starts_with eqb (x ∷ l) (b ∷ t)) (starts_with eqb (b ∷ t) (x ∷ l))
+    go more true e =
+        byte_yes (eqb b) (λ _. text t) wrong x l e ∙ ap (after 1) more
+        ∙ after_one (length t) (starts_with eqb l t) (starts_with eqb t l)
+        ∙ rw (e, eq-eqb x b (sym (eqb-true b x e)))
+    go more false e = byte_no (eqb b) (λ _. text t) wrong x l e ∙ rw (e, ne_eqb x b (λ h. eqb-false b x e (sym h)))
 
-  pub text_wrong : k < length t → i < length s → (get_or t k 0 ≡ get_or s i 0 → ⊥) → placed i (text (drop k t) (drop i s)) ≡ Place.Wrong
-  text_wrong h l e = rw (here t k h) (ap (placed i) {y = wrong} (no_at (eqb (get_or t k 0)) (λ _. text (drop (k + 1) t)) _ s i l (ne_eqb _ _ e)))
+-- what is left of the bytes from a position on that may be past them
+pub from_min : (s : List ℕ) (at n : ℕ) → n ≡ min at (length s) → take (length s - n) (drop n s) ≡ drop at s
+from_min s at n e =
+    take_all (length s - n) (drop n s) (omega (arith, length-drop n s)) ∙ ap (λ m. drop m s) e ∙ drop_min at s
 
-  pub text_step : k < length t → i < length s → get_or t k 0 ≡ get_or s i 0
-      → placed i (text (drop k t) (drop i s)) ≡ placed (i + 1) (text (drop (k + 1) t) (drop (i + 1) s))
-  text_step h l e =
-      rw (here t k h) (ap (placed i) (yes_at (eqb (get_or t k 0)) (λ _. text (drop (k + 1) t)) wrong s i l (eq-eqb _ _ e)) ∙ placed_after i (text (drop (k + 1) t) (drop (i + 1) s)))
+-- a text at a position that may be past the bytes
+pub placed_by : (s t : List ℕ) (at n : ℕ) → n ≡ min at (length s) → (stands begins : Bool)
+    → (let rest = take (length s - n) (drop n s) in
+    stands ≡ starts_with eqb rest t → begins ≡ starts_with eqb t rest
+    → placed at (read_by (length t) stands begins) ≡ placed at (text t (drop at s)))
+placed_by s t at n e stands begins p q =
+    let rest = take (length s - n) (drop n s) in
+    ap (placed at) (ap₂ (read_by (length t)) p q ∙ sym (text_by t rest) ∙ ap (text t) (from_min s at n e))

@@ -1,2 +1,1 @@
-mod Faces
 pub mod Theorems

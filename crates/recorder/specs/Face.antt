@@ -1,21 +1,20 @@
 -- What the calls on a trace hand back: document 02, K7. include/klarvesimo.h is their manual.
-use Prim.Native.Nat.{ℕ, zero, suc}
-use mathlib.Core.Path.{◌≡◌}
-use mathlib.Core.List.{List, [], ◌∷◌, ◌++◌}
-use lib.ListN.{take, drop, get_or, set}
+use Rattle.std.specs.Prelude.{ℕ, zero, suc, ◌≡◌, List, [], ◌∷◌, ◌++◌, take, drop, Result, Ok, Err}
+use lib.ListN.{get_or, set}
 use Rattle.traces.specs.Traces.{message_of, recorded, with_message, finished, with_ending}
-use Rattle.traces.specs.declared.Entry.{Entry}
+use Rattle.message.specs.declared.Span.{Span}
+use Rattle.traces.specs.declared.Refusal.{Refusal}
 use Rattle.traces.specs.declared.Recorded.{Recorded}
-use Rattle.traces.specs.declared.Finished.{Finished}
+use Rattle.traces.specs.Refusals.{number_of}
 
 -- a call's number, and the place lent for where a message begins and how long it is, as the call leaves it
 pub record MessageCall : Type 0 where
   pub number : ℕ
   pub place : List ℕ
 
-abbrev pub entry_as : List ℕ → Entry → MessageCall
-entry_as place (Entry.Refused number) = record { number = number; place = place }
-entry_as place (Entry.At start len) = record { number = 0; place = set (set place 0 start) 1 len }
+abbrev pub entry_as : List ℕ → Result Span Refusal → MessageCall
+entry_as place (Err r) = record { number = number_of r; place = place }
+entry_as place (Ok p) = record { number = 0; place = set (set place 0 p.start) 1 p.len }
 
 unfoldable pub message_face : List ℕ → ℕ → List ℕ → MessageCall
 message_face f n place = entry_as place (message_of f n)
@@ -26,17 +25,17 @@ pub record RecordCall : Type 0 where
   pub trace : List ℕ
   pub out : List ℕ
 
-abbrev pub recorded_as : List ℕ → List ℕ → Recorded → RecordCall
-recorded_as trace out (Recorded.Refused number) = record { number = number; trace = trace; out = out }
-recorded_as trace out (Recorded.Left used count) =
-    record { number = 0; trace = set (set trace 0 used) 1 count; out = out }
+abbrev pub recorded_as : List ℕ → List ℕ → Result Recorded Refusal → RecordCall
+recorded_as trace out (Err r) = record { number = number_of r; trace = trace; out = out }
+recorded_as trace out (Ok t) = record { number = 0; trace = set (set trace 0 t.used) 1 t.count; out = out }
 
 -- recording one message behind what the trace has
-abbrev pub recorded_in : List ℕ → List ℕ → ℕ → List ℕ → Recorded → RecordCall
+abbrev pub recorded_in : List ℕ → List ℕ → ℕ → List ℕ → Result Recorded Refusal → RecordCall
 recorded_in trace out used m r = recorded_as trace (with_message out used m r) r
 
 unfoldable pub record_face : List ℕ → List ℕ → List ℕ → RecordCall
-record_face out trace m = recorded_in trace out (get_or trace 0 0) m (recorded out (get_or trace 0 0) (get_or trace 1 0) m)
+record_face out trace m =
+    recorded_in trace out (get_or trace 0 0) m (recorded out (get_or trace 0 0) (get_or trace 1 0) m)
 
 -- a call's number, the place lent for the file's length and the lent output, as it leaves them
 pub record FinishCall : Type 0 where
@@ -44,9 +43,9 @@ pub record FinishCall : Type 0 where
   pub length : List ℕ
   pub out : List ℕ
 
-abbrev pub finished_as : List ℕ → List ℕ → Finished → FinishCall
-finished_as place out (Finished.Refused number) = record { number = number; length = place; out = out }
-finished_as place out (Finished.File n) = record { number = 0; length = set place 0 n; out = out }
+abbrev pub finished_as : List ℕ → List ℕ → Result ℕ Refusal → FinishCall
+finished_as place out (Err r) = record { number = number_of r; length = place; out = out }
+finished_as place out (Ok n) = record { number = 0; length = set place 0 n; out = out }
 
 unfoldable pub finish_face : List ℕ → ℕ → ℕ → List ℕ → FinishCall
 finish_face out used count place =

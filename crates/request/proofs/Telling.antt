@@ -6,14 +6,15 @@ use mathlib.Core.Bool.{Bool, true, false, not}
 use mathlib.Core.Option.{none, some}
 use mathlib.Core.List.{List, [], ◌∷◌, map}
 use Prim.Native.Nat.{ℕ, ◌+◌}
+use Rattle.std.specs.Prelude.{Some, None}
 use native.Mathlib.Omega.{arith}
-use lib.Bits.{bit_and, and_zero_l}
+use lib.Bits.{bit_and}
 use lib.Dec.{eqb}
-use lib.ListN.{length, get_or, replicate, length-take, length-drop}
+use lib.ListN.{length, get_or, length-take, length-drop}
 use borrow.Author.Tests.{eq-eqb, ne_eqb}
 use Rattle.lists.specs.Lists.{all, is_empty, bit}
 use Rattle.message.specs.Message.{Field, Fields, bad, good, fields_in, part, on_field, on_fields}
-use Rattle.message.specs.Known.{index_of, is_known, once_each, names_of, value_of, as_joined, judged_value}
+use Rattle.message.specs.Known.{index_of, is_known, once_each, names_of, as_joined, judged_value}
 use Rattle.message.specs.declared.Span.{Span}
 use Rattle.message.specs.declared.Known.{Known}
 use Rattle.message.specs.declared.Known.TheVariants.{ChannelIdentifier, ContentLength, ContentType}
@@ -21,40 +22,20 @@ use Rattle.message.specs.declared.Known.TheVariants.{ActiveRequestIdList, KillOn
 use Rattle.message.specs.declared.Known.TheVariants.{Unknown, ConfidenceThreshold, FetchTimeout, NoInputTimeout, SensitivityLevel}
 use Rattle.message.proofs.Says.{Judged}
 use Rattle.names.specs.Names.{bit_of, names_in}
-use Rattle.names.proofs.Marks.{none_set, came}
+use Rattle.names.proofs.Marks.{came}
 use Rattle.names.proofs.Theorems.NamesOfASet.{none_of_set}
-use Rattle.header.specs.Header.{nowhere, header_of}
+use Rattle.header.specs.Header.{nowhere, header_of, header_in}
 use Rattle.header.specs.declared.Header.{Header}
 use Rattle.header.proofs.Theorems.ValueByMask.{value_by_mask}
 use Rattle.synth.specs.Request.{ignored, ignores_any}
 use Rattle.synth.specs.declared.Method.{Method}
 use Rattle.values.specs.Values.{given_of}
-use Rattle.values.specs.Steps.{meets, given_by}
-use Rattle.values.specs.declared.Given.{Given}
-use Rattle.request.specs.Telling.{Tells, value_by}
+use Rattle.values.specs.Steps.{meets}
+use Rattle.request.specs.Telling.{Tells, Told, value_by}
 
 module _ (params : Bool) (f : List ℕ) where
-  none_came : (k : Known) → given_of f (value_by (header_of f bad) k) ≡ none
-  none_came k = ap (λ n. given_of f
-      (elim (not (eqb n 0)) [
-        | true ↦ Given.At
-            (get_or (replicate 16 nowhere) (index_of k) nowhere)
-        | false ↦ Given.Nothing
-      ])) (and_zero_l (bit_of k))
-
-  nothing : Tells params f (header_of f bad) bad
-  unfolding value_of
-  nothing = record {
-    good = refl;
-    value = λ k known. none_came k;
-    body = refl;
-    came = λ k. none_set (index_of k);
-    names = λ set. ap (λ n. not (eqb n 0))
-        (and_zero_l set);
-  }
-
   by_place : (p : Span) (t : Bool)
-      → given_of f (elim (not t) [ true ↦ Given.At p | false ↦ Given.Nothing ])
+      → given_of f (elim (not t) [ true ↦ Some p | false ↦ None ])
       ≡ as_joined (elim t [ true ↦ none | false ↦ some (part f p) ])
   by_place p true = refl
   by_place p false = refl
@@ -66,7 +47,7 @@ module _ (params : Bool) (f : List ℕ) where
   module _ (fs : List (Field Span)) (body : Span) (once : once_each params (names_in f fs) ≡ true)
       (ends : body.start + body.len ≡ length f) where
     abbrev h : Header
-    h = header_of f (good fs body)
+    h = header_in f fs body
 
     valued : (k : Known) → is_known params k ≡ true → given_of f (value_by h k) ≡ judged_value k (map (on_field (part f)) fs)
     valued k known =
@@ -76,16 +57,15 @@ module _ (params : Bool) (f : List ℕ) where
 
     something : Tells params f h (on_fields (part f) (good fs body))
     something = record {
-      good = refl;
       value = valued;
       came = λ k. came (names_in f fs) k;
       body = none_left (part f body) body.len (simp (length-take, length-drop) (omega arith));
       names = λ set. ap not (none_of_set set (names_in f fs));
     }
 
-  pub tells : (at : ℕ) (x : Fields Span) → Judged params f at x → Tells params f (header_of f x) (on_fields (part f) x)
-  tells at bad j = nothing
-  tells at (good fs body) j = something fs body j.once j.ends
+  pub told : (at : ℕ) (x : Fields Span) → Judged params f at x → Told params f (header_of f x) (on_fields (part f) x)
+  told at bad j = refl
+  told at (good fs body) j = (refl, something fs body j.once j.ends)
 
 -- tests that agree on the list of all names agree on each
 abbrev pub each : List Known

@@ -5,23 +5,20 @@
 ghost use Rattle.std.specs.Prelude.{◌≡◌};
 ghost use Rattle.message.specs.Message.{part, on_fields};
 ghost use Rattle.message.specs.Reading.{fields_from};
-ghost use Rattle.request.specs.Telling.{Tells, value_by};
+ghost use Rattle.request.specs.Telling.{Told, value_by};
 
-// The fields of the frame `f` from `at` on, with the names that count as known; no place of a field is kept but these
-// names' values.
-pub fn read(f: &[u8], at: usize, params: bool) -> header::Header
-    ensures { Tells params f.now result
+// The fields of the frame `f` from `at` on, with the names that count as known, where they pass judgement 2; no place
+// of a field is kept but these names' values.
+pub fn read(f: &[u8], at: usize, params: bool) -> Option<header::Header>
+    ensures { Told params f.now result
         (on_fields (part f.now) (fields_from params f.now at)) }
 {
-    let mut places = [0u64; 0];
-    header::read_header(f, at, params, &mut places)
+    header::read_header(f, at, params, &mut [])
 }
 
 // The value of the known name `k`, where it came.
-pub fn value(h: header::Header, k: message::Known) -> values::Given
+pub fn value(h: header::Header, k: message::Known) -> Option<message::Span>
     ensures { result ≡ value_by h k }
 {
-    let mask = h.mask;
-    let place = names::index(k);
-    values::given_at(mask, names::bit(k), h.values[place])
+    values::given_at(h.mask, names::bit(k), h.values[names::index(k)])
 }

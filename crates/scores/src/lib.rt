@@ -16,7 +16,7 @@ pub fn is_none(kind: answer::Kind, score: f32) -> bool
 {
     match kind {
         answer::Kind::Synthesizer => false,
-        answer::Kind::Recognizer => score != score,
+        answer::Kind::Recognizer => score.is_nan(),
     }
 }
 
@@ -24,10 +24,7 @@ pub fn is_none(kind: answer::Kind, score: f32) -> bool
 pub fn is_match(cause: u32) -> bool
     ensures { result ≡ is_match cause }
 {
-    if cause == 0 {
-        return true;
-    }
-    cause == 8
+    matches!(cause, 0 | 8)
 }
 
 // Whether the score is greater than the threshold of so many millionths.
@@ -41,11 +38,8 @@ fn is_greater(threshold: u32, score: f32) -> bool
 pub fn counted(threshold: u32, cause: u32, score: f32) -> u32
     ensures { threshold ≤ 1000000 → result ≡ counted threshold cause score }
 {
-    if !is_match(cause) {
-        return cause;
+    if is_match(cause) && !is_greater(threshold, score) {
+        return NO_MATCH;
     }
-    if is_greater(threshold, score) {
-        return cause;
-    }
-    NO_MATCH
+    cause
 }

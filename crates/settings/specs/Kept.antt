@@ -1,16 +1,16 @@
 -- The edition that becomes a further one, as document 02 has it.
-use Rattle.std.proofs.Math.Option.{Option, none, some}
-use Rattle.std.specs.Prelude.{List}
+use Rattle.std.proofs.Math.Option.{none, some}
+use Rattle.std.proofs.Math.Option as O
+use Rattle.std.specs.Prelude.{List, Option, Some, None}
 use Rattle.synth.specs.Settings.{further}
 use Rattle.synth.specs.declared.Edition.{Edition}
-use Rattle.settings.specs.declared.Further.{Further}
 
 -- where there is one
-abbrev pub as_further : Option Edition → Further
-as_further none = Further.Nothing
-as_further (some e) = Further.Of e
+abbrev pub as_further : O.Option Edition → Option Edition
+as_further none = None
+as_further (some e) = Some e
 
 -- the editions with it in front of those before it
-abbrev pub further_on : Further → List Edition → List Edition
-further_on Further.Nothing es = es
-further_on (Further.Of e) es = further e es
+abbrev pub further_on : Option Edition → List Edition → List Edition
+further_on None es = es
+further_on (Some e) es = further e es

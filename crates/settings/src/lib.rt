@@ -1,5 +1,4 @@
-// The settings of the moment, and the edition that becomes a further one: document 02, K5. The editions themselves stand
-// in the caller's numbers.
+// The settings of the moment: document 02, K5. The editions themselves stand in the caller's numbers.
 #![tactic(auto)]
 
 ghost use Rattle.std.specs.Prelude.{◌≡◌};
@@ -7,13 +6,6 @@ ghost use Rattle.synth.specs.States.{kill_set, level_set};
 
 // So many editions are kept.
 pub const MOST: usize = 4;
-
-// The edition that becomes a further one, where there is one.
-#[derive(Clone, Copy)]
-pub enum Further {
-    Nothing,
-    Of(synth::Edition),
-}
 
 // An edition with every setting unset, as a fresh channel has it.
 pub const UNSET: synth::Edition = synth::Edition {
@@ -29,10 +21,8 @@ pub fn kill_set(s: synth::Setting) -> bool
     ensures { result ≡ kill_set s }
 {
     match s {
-        synth::Setting::Unset => true,
         synth::Setting::Flag(b) => b,
-        synth::Setting::Millis(_) => true,
-        synth::Setting::Level(_) => true,
+        _ => true,
     }
 }
 
@@ -40,9 +30,7 @@ pub fn level_set(s: synth::Setting) -> u32
     ensures { result ≡ level_set s }
 {
     match s {
-        synth::Setting::Unset => 0,
-        synth::Setting::Flag(_) => 0,
-        synth::Setting::Millis(_) => 0,
         synth::Setting::Level(l) => l.millionths,
+        _ => 0,
     }
 }

@@ -1,17 +1,14 @@
 -- The events that end several requests, as the code measures and writes them: the first, then each of the others.
 -- Assumes nothing.
-use Prim.Native.Nat.{ℕ, suc, ◌+◌, ◌-◌, ◌≤◌, ◌<◌}
-use native.Mathlib.Nat.{not-suc-le-zero}
-use native.Mathlib.Numerals.{add-one}
+use Prim.Native.Nat.{ℕ, ◌+◌, ◌≤◌, ◌<◌}
 use native.Mathlib.Omega.{arith}
 use mathlib.Core.Path.{◌≡◌, refl, sym, ap, ◌∙◌}
 use mathlib.Core.List.{List, [], ◌∷◌, ◌++◌, map, append_assoc, append-nil}
 use lib.ListN.{length, take, drop, get_or, length-append, take-append-drop}
-use lib.Seq.{take-suc, take_all}
+use Rattle.std.proofs.lemmas.List.{take_more}
 use Rattle.answer.specs.Written.{written, written_all}
 use Rattle.answer.specs.Answers.{complete, completes}
 use Rattle.answer.specs.declared.Kind.{Kind}
-use Rattle.sizes.proofs.Listing.{others}
 
 module _ (kind : Kind) (name : List ℕ) where
   -- the events that end the requests with 011
@@ -35,7 +32,7 @@ module _ (kind : Kind) (name : List ℕ) where
     -- one event more
     pub cancelled_more : cancelled (take (i + 1) ids) ≡ cancelled (take i ids) ++ one (get_or ids i 0)
     cancelled_more =
-        ap cancelled (ap (λ (k : ℕ). take k ids) (add-one i) ∙ take-suc ids i 0 h)
+        ap cancelled (take_more ids i 0 h)
         ∙ cancelled_append (take i ids) (get_or ids i 0 ∷ [])
         ∙ ap (λ (l : List ℕ). cancelled (take i ids) ++ l) (cancelled_one (get_or ids i 0))
 
@@ -51,21 +48,16 @@ module _ (kind : Kind) (name : List ℕ) where
 
   -- ---- all
 
-  module _ (cause : ℕ) where
-    pub all_none : (ids : List ℕ) → length ids ≡ 0 → written_all (completes kind name ids cause) ≡ []
-    unfolding written_all
-    all_none [] h = refl
-    all_none (i ∷ is) h = absurd (omega arith)
+  pub all_none : (cause : ℕ) (ids : List ℕ) → length ids ≡ 0 → written_all (completes kind name ids cause) ≡ []
+  unfolding written_all
+  all_none cause [] h = refl
+  all_none cause (i ∷ is) h = absurd (omega arith)
 
-    pub all_some : (ids : List ℕ) → 0 < length ids
-        → written (complete kind name (get_or ids 0 0) cause) ++ cancelled (others ids) ≡ written_all (completes kind name ids cause)
+  module _ (cause : ℕ) {all ids : List ℕ} {id : ℕ} (e : all ≡ id ∷ ids) where
+    pub all_some : written (complete kind name id cause) ++ cancelled ids ≡ written_all (completes kind name all cause)
     unfolding written_all
-    all_some [] h = absurd (not-suc-le-zero h)
-    all_some (i ∷ is) h = rw (take_all (suc (length is) - 1) is (omega arith))
+    all_some = rw e
 
-    pub all_length : (ids : List ℕ) → 0 < length ids
-        → length (written_all (completes kind name ids cause))
-        ≡ length (written (complete kind name (get_or ids 0 0) cause)) + length (cancelled (others ids))
-    all_length ids h =
-        ap length (sym (all_some ids h))
-        ∙ length-append (written (complete kind name (get_or ids 0 0) cause)) (cancelled (others ids))
+    pub all_length : length (written_all (completes kind name all cause))
+        ≡ length (written (complete kind name id cause)) + length (cancelled ids)
+    all_length = ap length (sym all_some) ∙ length-append (written (complete kind name id cause)) (cancelled ids)

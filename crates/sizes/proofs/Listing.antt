@@ -1,13 +1,11 @@
 -- The list field as the pieces that the code writes, and how many bytes they have.
 -- Assumes nothing.
-use Prim.Native.Nat.{ℕ, suc, ◌+◌, ◌-◌, ◌≤◌, ◌<◌}
-use native.Mathlib.Nat.{not-suc-le-zero}
-use native.Mathlib.Numerals.{add-one}
+use Prim.Native.Nat.{ℕ, ◌+◌, ◌≤◌, ◌<◌}
 use native.Mathlib.Omega.{arith}
 use mathlib.Core.Path.{◌≡◌, refl, sym, ap, ◌∙◌}
 use mathlib.Core.List.{List, [], ◌∷◌, ◌++◌, append_assoc, append-nil}
 use lib.ListN.{length, take, drop, get_or, length-append, take-append-drop}
-use lib.Seq.{take-suc, take_all}
+use Rattle.std.proofs.lemmas.List.{take_more}
 use Rattle.octets.specs.Octets.{bytes, crlf}
 use Rattle.writers.specs.Decimal.{digits, width}
 use Rattle.answer.specs.Written.{field_text, fields_text}
@@ -29,7 +27,7 @@ module _ (ids : List ℕ) (i : ℕ) (h : i < length ids) where
   -- one id more
   pub commas_more : behind_commas (take (i + 1) ids) ≡ behind_commas (take i ids) ++ bytes "," ++ digits (get_or ids i 0)
   commas_more =
-      ap behind_commas (ap (λ (k : ℕ). take k ids) (add-one i) ∙ take-suc ids i 0 h)
+      ap behind_commas (take_more ids i 0 h)
       ∙ commas_append (take i ids) (get_or ids i 0 ∷ [])
       ∙ ap (λ (l : List ℕ). behind_commas (take i ids) ++ l) (commas_one (get_or ids i 0))
       ∙ sym (append_assoc (behind_commas (take i ids)) (bytes ",") (digits (get_or ids i 0)))
@@ -46,10 +44,6 @@ module _ (ids : List ℕ) (i : ℕ) (h : i < length ids) where
 
 -- ---- the field
 
--- the ids behind the first, as `&ids[1..]` has them
-abbrev pub others : List ℕ → List ℕ
-others ids = take (length ids - 1) (drop 1 ids)
-
 pub list_none : (ids : List ℕ) → length ids ≡ 0 → fields_text (active_request_id_list ids) ≡ []
 unfolding fields_text
 list_none [] h = refl
@@ -58,13 +52,10 @@ list_none (i ∷ is) h = absurd (omega arith)
 regroup : (n d b c : List ℕ) → n ++ d ++ b ++ c ≡ n ++ (d ++ b) ++ c ++ []
 regroup n d b c = simp (append_assoc, append-nil)
 
-pub list_some : (ids : List ℕ) → 0 < length ids
-    → bytes "Active-Request-Id-List:" ++ digits (get_or ids 0 0) ++ behind_commas (others ids) ++ crlf ≡ fields_text (active_request_id_list ids)
-unfolding fields_text field_text id_list_text
-list_some [] h = absurd (not-suc-le-zero h)
-list_some (i ∷ is) h =
-    rw (take_all (suc (length is) - 1) is (omega arith)) (regroup (bytes "Active-Request-Id-List:") (digits i) (behind_commas is) crlf)
+module _ {all ids : List ℕ} {id : ℕ} (e : all ≡ id ∷ ids) where
+  pub list_some : bytes "Active-Request-Id-List:" ++ digits id ++ behind_commas ids ++ crlf ≡ fields_text (active_request_id_list all)
+  unfolding fields_text field_text id_list_text
+  list_some = rw e (regroup (bytes "Active-Request-Id-List:") (digits id) (behind_commas ids) crlf)
 
-pub list_length : (ids : List ℕ) → 0 < length ids
-    → length (fields_text (active_request_id_list ids)) ≡ 25 + width (get_or ids 0 0) + length (behind_commas (others ids))
-list_length ids h = ap length (sym (list_some ids h)) ∙ simp length-append (omega arith)
+  pub list_length : length (fields_text (active_request_id_list all)) ≡ 25 + width id + length (behind_commas ids)
+  list_length = ap length (sym list_some) ∙ simp length-append (omega arith)

@@ -5,7 +5,7 @@ use native.Mathlib.Omega.{arith}
 use native.Mathlib.Decide.{dec_lt}
 use mathlib.Core.Path.{◌≡◌, sym, ap, ◌∙◌}
 use mathlib.Core.List.{List, [], ◌∷◌, ◌++◌, append-nil}
-use lib.ListN.{length, length-append}
+use lib.ListN.{length, get_or, length-append}
 use Rattle.octets.specs.Octets.{bytes, crlf}
 use Rattle.writers.specs.Decimal.{width}
 use Rattle.writers.specs.SelfLength.{self_length}
@@ -20,9 +20,7 @@ use Rattle.answer.specs.Answers.{channel_identifier, active_request_id_list, res
 use Rattle.answer.specs.Answers.{event_name, cause_names, completion_cause, complete}
 use Rattle.answer.specs.declared.Kind.{Kind}
 use Rattle.answer.specs.declared.Answer.{Answer}
-use Rattle.message.specs.declared.Span.{Span}
-use Rattle.answer.specs.Causes.{placed}
-use Rattle.answer.proofs.Causes.{name_length, cause_length}
+use Rattle.answer.proofs.Causes.{cause_length}
 use Rattle.answer.proofs.Places.{field_size}
 use Rattle.answer.proofs.Frames.{written_length}
 use Rattle.answer.proofs.Sizes.{after_size, fields_size, response_start, event_start}
@@ -103,11 +101,10 @@ module _ (kind : Kind) (name : List ℕ) (id cause : ℕ) where
       ≡ self_length (35 + length name + (10 + length (event_name kind) + width id + (19 + length (completion_cause kind cause).value)))
   complete_measured = written_length (complete kind name id cause) ∙ ap self_length complete_base
 
-  -- where the cause's name stands at p
-  pub event_measured : {p : Span} → p ≡ placed (cause_names kind) cause
-      → length (written (complete kind name id cause))
-      ≡ self_length (35 + length name + (10 + length (event_name kind) + width id + (23 + p.len)))
-  event_measured e =
+  -- by the cause's name
+  pub event_measured : length (written (complete kind name id cause))
+      ≡ self_length (35 + length name + (10 + length (event_name kind) + width id + (23 + length (get_or (cause_names kind) cause []))))
+  event_measured =
       complete_measured
       ∙ ap (λ (n : ℕ). self_length (35 + length name + (10 + length (event_name kind) + width id + n)))
-      (omega (arith, cause_length kind cause, name_length kind cause e))
+      (omega (arith, cause_length kind cause))

@@ -27,8 +27,7 @@ fn state_width(state: message::RequestState) -> usize
 fn words_size(a: answer::Answer) -> usize
     ensures { (result ≡ 5 + width a.id + length (state_text a.state)) × (result ≤ 36) }
 {
-    let state = a.state;
-    5 + writers::width(a.id as u64) + state_width(state)
+    5 + writers::width(u64::from(a.id)) + state_width(a.state)
 }
 
 // The size of the ids, each with a comma before it, or cap + 1 where it is above cap.
@@ -37,13 +36,11 @@ fn commas_size(ids: &[u32], cap: usize) -> usize
     ensures { result ≡ min (length (behind_commas ids.now)) (cap + 1) }
 {
     let mut n = 0;
-    let mut i = 0;
-    while i < ids.len() {
-        n += 1 + writers::width(ids[i] as u64);
+    for id in ids {
+        n += 1 + writers::width(u64::from(*id));
         if cap < n {
             return cap + 1;
         }
-        i += 1;
     }
     n
 }
@@ -53,14 +50,11 @@ fn list_size(ids: &[u32], cap: usize) -> usize
     requires { cap < 2 ^ 63 }
     ensures { result ≡ min (length (fields_text (active_request_id_list ids.now))) (cap + 1) }
 {
-    if ids.len() == 0 {
+    let Some((first, others)) = ids.split_first() else {
         return 0;
-    }
-    let n = 25 + writers::width(ids[0] as u64) + commas_size(&ids[1..], cap);
-    if cap < n {
-        return cap + 1;
-    }
-    n
+    };
+    let n = 25 + writers::width(u64::from(*first)) + commas_size(others, cap);
+    n.min(cap + 1)
 }
 
 // The size of a message with the fields Channel-Identifier and others, and no body, where the words of its start line
@@ -69,17 +63,8 @@ fn message_size(name: &[u8], rest: usize, cap: usize) -> usize
     requires { cap < 2 ^ 63 }
     ensures { result ≡ min (self_length (35 + length name.now + rest)) (cap + 1) }
 {
-    if cap < rest {
-        return cap + 1;
-    }
-    if cap - rest < name.len() {
-        return cap + 1;
-    }
-    let size = writers::self_length(35 + name.len() + rest);
-    if cap < size {
-        return cap + 1;
-    }
-    size
+    let size = writers::self_length((35 + name.len()).saturating_add(rest));
+    size.min(cap + 1)
 }
 
 // The size of the response, or one more than `out` holds where it is longer.
@@ -88,9 +73,7 @@ pub fn response_size(name: &[u8], a: answer::Answer, ids: &[u32], out: &[u8]) ->
         (length out.now + 1) }
 {
     let cap = out.len();
-    let words = words_size(a);
-    let list = list_size(ids, cap);
-    message_size(name, words + list, cap)
+    message_size(name, words_size(a) + list_size(ids, cap), cap)
 }
 
 // The size of the answer that tells fields, or one more than `out` holds where it is longer.
@@ -98,36 +81,21 @@ pub fn telling_size(name: &[u8], a: answer::Answer, fields: &[u8], out: &[u8]) -
     ensures { result ≡ min (length (telling_of name.now a fields.now))
         (length out.now + 1) }
 {
-    let cap = out.len();
-    let words = words_size(a);
-    message_size(name, words + fields.len(), cap)
+    message_size(name, words_size(a) + fields.len(), out.len())
 }
 
-// The size of the SPEAK-COMPLETE that ends request `id`, or one more than `out` holds where it is longer.
-pub fn speak_complete_size(name: &[u8], id: u32, cause: u32, out: &[u8]) -> usize
-    ensures { result ≡ min (length (written (complete Kind.Synthesizer name.now id cause)))
+// The size of the event that ends request `id`, or one more than `out` holds where it is longer.
+pub fn complete_size(kind: answer::Kind, name: &[u8], id: u32, cause: u32, out: &[u8]) -> usize
+    ensures { result ≡ min (length (written (complete kind name.now id cause)))
         (length out.now + 1) }
 {
-    let cap = out.len();
-    let place = answer::synthesizer_place(cause);
-    let words = 24 + writers::width(id as u64);
-    let field = 23 + place.len;
-    message_size(name, words + field, cap)
-}
-
-// The size of the RECOGNITION-COMPLETE that ends request `id`, or one more than `out` holds where it is longer.
-pub fn recognition_complete_size(name: &[u8], id: u32, cause: u32, out: &[u8]) -> usize
-    ensures { result ≡ min (length (written (complete Kind.Recognizer name.now id cause)))
-        (length out.now + 1) }
-{
-    let cap = out.len();
-    let place = answer::recognizer_place(cause);
-    let words = 30 + writers::width(id as u64);
-    let field = 23 + place.len;
-    message_size(name, words + field, cap)
+    let words = 10 + answer::event_name(kind).len() + writers::width(u64::from(id));
+    let field = 23 + answer::cause_name(kind, cause).len();
+    message_size(name, words + field, out.len())
 }
 
 // The size of those that end the requests with 011, or one more than `out` holds where it is above that.
+// A sum of its own beside `commas_size`: each is measured by its own definition.
 fn cancelled_size(name: &[u8], ids: &[u32], out: &[u8]) -> usize
     ensures { result ≡ min
         (length (written_all (map (λ i. complete Kind.Recognizer name.now i 11) ids.now)))
@@ -135,13 +103,11 @@ fn cancelled_size(name: &[u8], ids: &[u32], out: &[u8]) -> usize
 {
     let cap = out.len();
     let mut n = 0;
-    let mut i = 0;
-    while i < ids.len() {
-        n += recognition_complete_size(name, ids[i], answer::CANCELLED, out);
+    for id in ids {
+        n += complete_size(answer::Kind::Recognizer, name, *id, answer::CANCELLED, out);
         if cap < n {
             return cap + 1;
         }
-        i += 1;
     }
     n
 }
@@ -153,17 +119,10 @@ pub fn complete_all_size(name: &[u8], ids: &[u32], cause: u32, out: &[u8]) -> us
         (length (written_all (completes Kind.Recognizer name.now ids.now cause)))
         (length out.now + 1) }
 {
-    let cap = out.len();
-    if ids.len() == 0 {
+    let Some((first, others)) = ids.split_first() else {
         return 0;
-    }
-    let first = recognition_complete_size(name, ids[0], cause, out);
-    if cap < first {
-        return first;
-    }
-    let n = first + cancelled_size(name, &ids[1..], out);
-    if cap < n {
-        return cap + 1;
-    }
-    n
+    };
+    let size = complete_size(answer::Kind::Recognizer, name, *first, cause, out);
+    size.saturating_add(cancelled_size(name, others, out))
+        .min(out.len() + 1)
 }

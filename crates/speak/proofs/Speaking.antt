@@ -2,7 +2,9 @@
 use Prim.Native.Nat.{ℕ, ◌≤◌}
 use mathlib.Core.Path.{◌≡◌, refl, sym, ap, ap₂, ◌∙◌}
 use mathlib.Core.Bool.{Bool, true, false, not, ◌&&◌, ◌||◌, false≢true}
-use mathlib.Core.Option.{Option, none, some}
+use mathlib.Core.Option as Spec
+use mathlib.Core.Option.{none, some}
+use Rattle.std.proofs.Common.{Option, Some, None}
 use mathlib.Core.List.{List, []}
 use native.Mathlib.Omega.{arith}
 use lib.Dec.{leb, ltb, lit≤}
@@ -35,51 +37,55 @@ use Rattle.header.specs.declared.Header.{Header}
 use Rattle.synth.proofs.Levels.{kept_most, read_exact}
 use Rattle.values.specs.Values.{given_of, kill_of, millionths_in, threshold_of, content_by}
 use Rattle.values.specs.Steps.{meets}
-use Rattle.values.specs.declared.Kill.{Kill}
-use Rattle.values.specs.declared.Threshold.{Threshold}
 use Rattle.request.specs.Telling.{Tells, value_by}
 use Rattle.request.proofs.Telling.{ignores}
 use Rattle.outcomes.specs.Outcomes.{asked}
 
--- what Kill-On-Barge-In says
-abbrev killed : Bool → Bool → Kill
-killed t f = elim t [ true ↦ Kill.Of true | false ↦ elim f [ true ↦ Kill.Of false | false ↦ Kill.Illegal ] ]
+abbrev no_flag : Option Bool
+no_flag = None
 
-pub kill_given : (kill : Bool) (x : Setting) (o : Option (List ℕ)) → Kill.Of kill ≡ kill_of (kill_set x) o
+abbrev no_level : Option ℕ
+no_level = None
+
+-- what Kill-On-Barge-In says
+abbrev killed : Bool → Bool → Option Bool
+killed t f = elim t [ true ↦ Some true | false ↦ elim f [ true ↦ Some false | false ↦ None ] ]
+
+pub kill_given : (kill : Bool) (x : Setting) (o : Spec.Option (List ℕ)) → Some kill ≡ kill_of (kill_set x) o
     → (optional is_flag o ≡ true) × (kill ≡ killable x o)
 kill_given kill x none e = (refl, cc)
 kill_given kill x (some v) e = go (alike v (bytes "true")) (alike v (bytes "false")) e
   where
-    go : (t f : Bool) → Kill.Of kill ≡ killed t f → ((t || f) ≡ true) × (kill ≡ t)
+    go : (t f : Bool) → Some kill ≡ killed t f → ((t || f) ≡ true) × (kill ≡ t)
     go true f e = (refl, cc)
     go false true e = (refl, cc)
     go false false e = let d : ◌≡◌ {A = ℕ} 0 1 = cc in absurd (omega arith)
 
-pub kill_illegal : (otherwise : Bool) (o : Option (List ℕ)) → Kill.Illegal ≡ kill_of otherwise o → optional is_flag o ≡ false
+pub kill_illegal : (otherwise : Bool) (o : Spec.Option (List ℕ)) → no_flag ≡ kill_of otherwise o → optional is_flag o ≡ false
 kill_illegal otherwise none e = let d : ◌≡◌ {A = ℕ} 0 1 = cc in absurd (omega arith)
 kill_illegal otherwise (some v) e = go (alike v (bytes "true")) (alike v (bytes "false")) e
   where
-    go : (t f : Bool) → Kill.Illegal ≡ killed t f → (t || f) ≡ false
+    go : (t f : Bool) → no_flag ≡ killed t f → (t || f) ≡ false
     go true f e = let d : ◌≡◌ {A = ℕ} 0 1 = cc in absurd (omega arith)
     go false true e = let d : ◌≡◌ {A = ℕ} 0 1 = cc in absurd (omega arith)
     go false false e = refl
 
 -- what Confidence-Threshold says
-pub level_given : (n : ℕ) (x : Setting) (o : Option (List ℕ)) → Threshold.Of n ≡ threshold_of (level_set x) o
+pub level_given : (n : ℕ) (x : Setting) (o : Spec.Option (List ℕ)) → Some n ≡ threshold_of (level_set x) o
     → (optional is_level o ≡ true) × (n ≡ threshold_in x o)
 level_given n x none e = (refl, cc)
 level_given n x (some v) e = go (level_in v) e
   where
-    go : (l : Option Level) → Threshold.Of n ≡ millionths_in l → (is_some l ≡ true) × (n ≡ or_zero l)
+    go : (l : Spec.Option Level) → Some n ≡ millionths_in l → (is_some l ≡ true) × (n ≡ or_zero l)
     go none e = let d : ◌≡◌ {A = ℕ} 0 1 = cc in absurd (omega arith)
     go (some l) e = (refl, cc)
 
-pub level_illegal : (otherwise : ℕ) (o : Option (List ℕ)) → Threshold.Illegal ≡ threshold_of otherwise o
+pub level_illegal : (otherwise : ℕ) (o : Spec.Option (List ℕ)) → no_level ≡ threshold_of otherwise o
     → optional is_level o ≡ false
 level_illegal otherwise none e = let d : ◌≡◌ {A = ℕ} 0 1 = cc in absurd (omega arith)
 level_illegal otherwise (some v) e = go (level_in v) e
   where
-    go : (l : Option Level) → Threshold.Illegal ≡ millionths_in l → is_some l ≡ false
+    go : (l : Spec.Option Level) → no_level ≡ millionths_in l → is_some l ≡ false
     go none e = refl
     go (some l) e = let d : ◌≡◌ {A = ℕ} 0 1 = cc in absurd (omega arith)
 
@@ -110,11 +116,11 @@ kept_few (Setting.Level l) h = kept_most l h
 pub set_few : (k : Kind) (e : Edition) → is_edition_of k e ≡ true → level_set e.confidence ≤ 1000000
 set_few k e h = kept_few e.confidence (confidence_kept k e h)
 
-pub threshold_few : (x : Setting) → level_set x ≤ 1000000 → (o : Option (List ℕ)) → threshold_in x o ≤ 1000000
+pub threshold_few : (x : Setting) → level_set x ≤ 1000000 → (o : Spec.Option (List ℕ)) → threshold_in x o ≤ 1000000
 threshold_few x h none = h
 threshold_few x h (some v) = go (level_in v) refl
   where
-    go : (l : Option Level) → level_in v ≡ l → or_zero l ≤ 1000000
+    go : (l : Spec.Option Level) → level_in v ≡ l → or_zero l ≤ 1000000
     go none e = lit≤ tt
     go (some l) e = (read_exact v l e).most
 
@@ -201,10 +207,10 @@ module _ (v : View) (major minor : ℕ) (m : Method) (id : ℕ) (fs : Fields (Li
   module _ (opened : opens m ≡ true) where
     -- judgement 9 by what a header tells
     module _ where
-      abbrev typed : Bool → Option (List ℕ)
+      abbrev typed : Bool → Spec.Option (List ℕ)
       typed b = elim b [ true ↦ judged_value ContentType (fields_in fs) | false ↦ none ]
 
-      abbrev ruled : Bool → Option (List ℕ) → Verdict
+      abbrev ruled : Bool → Spec.Option (List ℕ) → Verdict
       ruled b media = elim b [
         | true ↦ unless (given anything (judged_value ContentLength (fields_in fs)) && given anything media) 406
             then unless (not (is_empty (body_in fs))) 408

@@ -16,6 +16,7 @@ ghost use Rattle.values.specs.Values.{verdict_of};
 ghost use Rattle.message.specs.Message.{Fields};
 
 // The state that a SPEAK or a RECOGNIZE which becomes active enters.
+// Of SPEAK and RECOGNIZE alone (`opens`), here and below: those who call say so.
 fn active_state(m: synth::Method) -> synth::State
     ensures { opens m ≡ true → (v : View) (r : Request) → acted m v r ≡ entered result v r }
 {
@@ -37,31 +38,25 @@ fn join(
     ensures { opens m ≡ true → e.threshold ≤ 1000000 → (now : Edition) → ComesOn kind now capacity state q m e.id
         (λ r. (ignored ≡ ignores_any r) × (e ≡ entry_of now r)) result }
 {
-    let id = e.id;
     if queue::is_full(kind, q) {
-        return outcomes::failed(state, q, id, answer::Status::operation_failed());
+        return outcomes::failed(state, q, e.id, answer::Status::OPERATION_FAILED);
     }
     let success = answer::Status::success(ignored);
-    let queue = queue::join(q, e);
-    let listed = queue::list_none();
-    if queue::is_busy(state) {
-        return outcomes::Outcome {
-            answer: success.pending(id),
-            listed,
-            state,
-            queue,
-        };
-    }
+    let (answer, state) = if queue::is_busy(state) {
+        (success.pending(e.id), state)
+    } else {
+        (success.in_progress(e.id), active_state(m))
+    };
     outcomes::Outcome {
-        answer: success.in_progress(id),
-        listed,
-        state: active_state(m),
-        queue,
+        answer,
+        listed: queue::list_none(),
+        state,
+        queue: queue::join(q, e),
     }
 }
 
 // Judgement 9, of the fields in the frame `f` that are those of the header `h`.
-fn content(m: synth::Method, f: &[u8], h: header::Header) -> values::Verdict
+fn content(m: synth::Method, f: &[u8], h: header::Header) -> Result<(), answer::Status>
     ensures { opens m ≡ true → (major minor id : ℕ) (fs : Fields (List ℕ)) → Tells false f.now h fs
         → verdict_of result ≡ content_of (asked major minor m id fs) }
 {
@@ -70,24 +65,26 @@ fn content(m: synth::Method, f: &[u8], h: header::Header) -> values::Verdict
     values::content(m, f, length, media, h.body.len)
 }
 
-// What comes after judgement 9.
+// What comes after judgement 6: 9, and what comes after that. Always inlined: called, it takes 800 bytes of stack more.
+#[inline(always)]
 fn enter(
     kind: answer::Kind,
     m: synth::Method,
     state: synth::State,
     q: queue::Queue,
     e: synth::Entry,
-    content: values::Verdict,
+    f: &[u8],
+    h: header::Header,
     ignored: bool,
 ) -> outcomes::Outcome
     ensures { opens m ≡ true → e.threshold ≤ 1000000 → (now : Edition)
         → ComesOn kind now (λ v r. content_of r then capacity v r) state q m e.id
-        (λ r. (verdict_of content ≡ content_of r) × (ignored ≡ ignores_any r) × (e ≡ entry_of now r)) result }
+        (λ r. Tells false f.now h r.fields × (ignored ≡ ignores_any r) × (e ≡ entry_of now r)) result }
 {
-    match content {
-        values::Verdict::Fails(status) => outcomes::failed(state, q, e.id, status),
-        values::Verdict::Passes => join(kind, m, state, q, e, ignored),
+    if let Err(status) = content(m, f, h) {
+        return outcomes::failed(state, q, e.id, status);
     }
+    join(kind, m, state, q, e, ignored)
 }
 
 // The SPEAK `id`, whose fields in the frame `f` are those of the header `h`: judgement 6, and what comes after it. What
@@ -104,32 +101,22 @@ pub fn speak(
     ensures { is_edition_of kind set ≡ true
         → ActsOn kind set state q Speak id (λ r. Tells false f.now h r.fields) result }
 {
-    let m = synth::Method::Speak;
+    let given = request::value(h, message::Known::KillOnBargeIn);
+    let Some(kill) = values::kill_of(f, given, settings::kill_set(set.kill)) else {
+        return outcomes::failed(state, q, id, answer::Status::ILLEGAL_VALUE);
+    };
+    let threshold = settings::level_set(set.confidence);
+    let e = synth::Entry {
+        id,
+        kill,
+        threshold,
+    };
     let ignored = values::meets(h.mask, names::IGNORED_IN_SPEAK);
-    let content = content(m, f, h);
-    let kill_set = set.kill;
-    let otherwise = settings::kill_set(kill_set);
-    let flag = values::kill_of(
-        f,
-        request::value(h, message::Known::KillOnBargeIn),
-        otherwise,
-    );
-    match flag {
-        values::Kill::Illegal => outcomes::failed(state, q, id, answer::Status::illegal_value()),
-        values::Kill::Of(kill) => {
-            let level_set = set.confidence;
-            let threshold = settings::level_set(level_set);
-            let e = synth::Entry {
-                id,
-                kill,
-                threshold,
-            };
-            enter(kind, m, state, q, e, content, ignored)
-        }
-    }
+    enter(kind, synth::Method::Speak, state, q, e, f, h, ignored)
 }
 
 // The RECOGNIZE `id`, alike. Barge-in is a synthesizer's, so nothing spares it.
+// Two functions: each reads another field, and takes the other value from the settings.
 pub fn recognize(
     kind: answer::Kind,
     state: synth::State,
@@ -142,26 +129,16 @@ pub fn recognize(
     ensures { is_edition_of kind set ≡ true
         → ActsOn kind set state q Recognize id (λ r. Tells false f.now h r.fields) result }
 {
-    let m = synth::Method::Recognize;
+    let given = request::value(h, message::Known::ConfidenceThreshold);
+    let Some(threshold) = values::threshold_of(f, given, settings::level_set(set.confidence)) else {
+        return outcomes::failed(state, q, id, answer::Status::ILLEGAL_VALUE);
+    };
+    let kill = settings::kill_set(set.kill);
+    let e = synth::Entry {
+        id,
+        kill,
+        threshold,
+    };
     let ignored = values::meets(h.mask, names::IGNORED_IN_RECOGNIZE);
-    let content = content(m, f, h);
-    let level_set = set.confidence;
-    let otherwise = settings::level_set(level_set);
-    let value = request::value(h, message::Known::ConfidenceThreshold);
-    let level = values::threshold_of(f, value, otherwise);
-    match level {
-        values::Threshold::Illegal => {
-            outcomes::failed(state, q, id, answer::Status::illegal_value())
-        }
-        values::Threshold::Of(threshold) => {
-            let kill_set = set.kill;
-            let kill = settings::kill_set(kill_set);
-            let e = synth::Entry {
-                id,
-                kill,
-                threshold,
-            };
-            enter(kind, m, state, q, e, content, ignored)
-        }
-    }
+    enter(kind, synth::Method::Recognize, state, q, e, f, h, ignored)
 }

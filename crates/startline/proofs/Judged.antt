@@ -22,7 +22,8 @@ use Rattle.message.specs.Message.{response}
 use Rattle.message.specs.StartLines.{starts_capital, is_method_name, is_status, Started}
 use Rattle.startwords.specs.Runs.{is_naming, id_of, id_at}
 use Rattle.startline.specs.Rules.{Rule, said, told, word, last_word, from_status, behind_name, from_name}
-use Rattle.startwords.specs.declared.Id.{Id}
+use Rattle.std.specs.Prelude as P
+use Rattle.digits.specs.declared.Numeral.{Numeral}
 use Rattle.startline.proofs.Said.{Firm, ended, told_word, told_nothing}
 use Rattle.startline.proofs.Fronts.{Front, front_all, front_few, front_firm, run_firm, Counted, counted}
 
@@ -81,9 +82,9 @@ at_rest s at w r e = sym (drop-drop (length w) at s) ∙ ap (drop (length w)) e 
 -- ---- a request-id
 
 -- what is left of a rule that a request-id's number gives, where the request-id is found
-abbrev pub id_by : List ℕ → (ℕ → Rule) → Id → Started
-id_by s rule Id.Wrong = Started.malformed
-id_by s rule (Id.Got id e) = ended (rule id) e (drop e s)
+abbrev pub id_by : List ℕ → (ℕ → Rule) → P.Option Numeral → Started
+id_by s rule P.None = Started.malformed
+id_by s rule (P.Some id) = ended (rule id.value) id.next (drop id.next s)
 
 id_few : (w : List ℕ) → is_request_id w ≡ true → (length w ≤ 10) × (all is_digit w ≡ true)
 id_few w e =
@@ -105,17 +106,22 @@ id_left s rule at (x ∷ w) r e f =
 
     go : (b : Bool)
         → ◌≡◌ {A = Started} (elim b [ true ↦ ended (rule (number_of (x ∷ w))) end r | false ↦ Started.malformed ])
-        (id_by s rule (elim b [ true ↦ Id.Got (number_of (x ∷ w)) end | false ↦ Id.Wrong ]))
+        (id_by s rule (elim b [ true ↦ P.Some (record { value = number_of (x ∷ w); next = end }) | false ↦ P.None ]))
     go true = ap (ended (rule (number_of (x ∷ w))) end) (sym (at_rest s at (x ∷ w) r e))
     go false = refl
 
-pub id_told : (s : List ℕ) (rule : ℕ → Rule) (at : ℕ)
+id_told : (s : List ℕ) (rule : ℕ → Rule) (at : ℕ)
     → told (word is_request_id (λ a. rule (number_of a))) at (said (drop at s)) ≡ id_by s rule (id_at at (drop at s))
 unfolding id_at
 id_told s rule at =
     let c = counted 10 (lit≤ tt) (drop at s) in
     digits_told is_request_id (λ a. rule (number_of a)) 10 id_few at (drop at s) c ∙ id_left s rule at c.word c.rest c.parted c.front
     ∙ ap (λ d. id_by s rule (id_of at d)) (sym c.read)
+
+-- where the request-id is sought and found, or not
+pub id_found : (s : List ℕ) (rule : ℕ → Rule) (at : ℕ) (id : P.Option Numeral) → id ≡ id_at at (drop at s)
+    → told (word is_request_id (λ a. rule (number_of a))) at (said (drop at s)) ≡ id_by s rule id
+id_found s rule at id e = id_told s rule at ∙ ap (id_by s rule) (sym e)
 
 -- ---- a status
 
@@ -150,8 +156,10 @@ module _ (s : List ℕ) (id at : ℕ) (d : Digits) (found : d ≡ digits_at 3 (d
   pub status_wrong : (d.count ≡ 3 → ⊥) → told (from_status id) at (said (drop at s)) ≡ Started.malformed
   status_wrong h = status_found ∙ ap (λ b. status_by s id at b d) (ne_eqb d.count 3 h)
 
-  pub status_left : d.count ≡ 3 → told (from_status id) at (said (drop at s)) ≡ ended (last_word (response id d.value)) (at + d.count) (drop (at + d.count) s)
-  status_left h = status_found ∙ ap (λ b. status_by s id at b d) (eq-eqb d.count 3 h)
+  pub status_left : d.count ≡ 3 → told (from_status id) at (said (drop at s)) ≡ ended (last_word (response id d.value)) (at + 3) (drop (at + 3) s)
+  status_left h =
+      status_found ∙ ap (λ b. status_by s id at b d) (eq-eqb d.count 3 h)
+      ∙ ap (λ n. ended (last_word (response id d.value)) (at + n) (drop (at + n) s)) h
 
 -- ---- a name
 

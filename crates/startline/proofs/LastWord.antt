@@ -20,15 +20,16 @@ use Rattle.message.specs.declared.RequestState.{RequestState}
 use Rattle.message.specs.declared.RequestState.TheVariants.{Pending, InProgress, Complete}
 use Rattle.startwords.specs.Runs.{is_naming, begins, last_of, last_at}
 use Rattle.startline.specs.Rules.{said, told, made, last_word}
+use Rattle.std.specs.Prelude as P
 use Rattle.startwords.specs.declared.Last.{Last}
 use Rattle.readers.proofs.Positions.{apart}
 use Rattle.startline.proofs.Said.{ended, told_same, told_nothing}
 use Rattle.startline.proofs.Judged.{run_told}
 
 -- the start that a state makes, where it is found
-abbrev pub last_by : (RequestState → Start Span) → Last → Started
-last_by start Last.Wrong = Started.malformed
-last_by start (Last.Got state next) = started (start state) next
+abbrev pub last_by : (RequestState → Start Span) → P.Option Last → Started
+last_by start P.None = Started.malformed
+last_by start (P.Some last) = started (start last.state) last.next
 
 -- ---- a text and CRLF, by the run of name bytes
 

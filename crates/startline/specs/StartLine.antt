@@ -1,4 +1,5 @@
 -- The start line that the code hands back, in the terms of document 01.
+use Rattle.std.specs.Prelude.{Option, Some, None}
 use Rattle.message.specs.Message as M
 use Rattle.message.specs.StartLines.{Started, started}
 use Rattle.message.specs.declared.Span.{Span}
@@ -10,6 +11,6 @@ start_of (Start.Request name id) = M.request name id
 start_of (Start.Response id status state) = M.response id status state
 start_of (Start.Event name id state) = M.event name id state
 
-abbrev pub started_of : StartLine → Started
-started_of StartLine.Malformed = Started.malformed
-started_of (StartLine.Line start next) = started (start_of start) next
+abbrev pub started_of : Option StartLine → Started
+started_of None = Started.malformed
+started_of (Some line) = started (start_of line.start) line.next

@@ -9,144 +9,118 @@ ghost use Rattle.message.specs.Reading.{asks_params};
 ghost use Rattle.startline.specs.StartLine.{start_of, started_of};
 ghost use Rattle.startline.specs.Rules.{said, told, from_status, from_id, behind_name, from_name};
 
+use message::{RequestState, Span};
+
 // What a start line says; a name is a part of the frame.
-#[derive(Clone, Copy)]
+#[derive(Clone, Copy, PartialEq, Eq, Debug)]
 pub enum Start {
-    Request(message::Span, u64),
-    Response(u64, u64, message::RequestState),
-    Event(message::Span, u64, message::RequestState),
+    Request(Span, u64),
+    Response(u64, u64, RequestState),
+    Event(Span, u64, RequestState),
 }
 
 // A start line, and where the lines after it begin.
-#[derive(Clone, Copy)]
-pub enum StartLine {
-    Malformed,
-    Line(Start, usize),
+#[derive(Clone, Copy, PartialEq, Eq, Debug)]
+pub struct StartLine {
+    pub start: Start,
+    pub next: usize,
 }
 
 // The longest name: document 01, "Numbers".
 const LONGEST_NAME: usize = 32;
 
 // A response: request-id, three digits, state.
-fn response(f: &[u8], at: usize) -> StartLine
+fn response(f: &[u8], at: usize) -> Option<StartLine>
     ensures { started_of result ≡ told from_id at (said (drop at f.now)) }
 {
-    let i = startwords::request_id(f, at);
-    match i {
-        startwords::Id::Wrong => StartLine::Malformed,
-        startwords::Id::Got(id, end) => {
-            if !readers::has(f, end, b' ') {
-                return StartLine::Malformed;
-            }
-            status(f, end + 1, id)
-        }
+    let id = startwords::request_id(f, at)?;
+    if !readers::has(f, id.next, b' ') {
+        return None;
     }
+    status(f, id.next + 1, id.value)
 }
 
 // What stands behind a response's request-id: three digits, state.
-fn status(f: &[u8], at: usize, id: u64) -> StartLine
+fn status(f: &[u8], at: usize, id: u64) -> Option<StartLine>
     ensures { started_of result ≡ told (from_status id) at (said (drop at f.now)) }
 {
-    let d = digits::digits_at(f, at, 3);
-    let count = d.count;
-    if count != 3 {
-        return StartLine::Malformed;
+    let digits = digits::digits_at(f, at, 3);
+    if digits.count != 3 || !readers::has(f, at + 3, b' ') {
+        return None;
     }
-    let end = at + count;
-    if !readers::has(f, end, b' ') {
-        return StartLine::Malformed;
-    }
-    let l = startwords::last_state(f, end + 1);
-    match l {
-        startwords::Last::Wrong => StartLine::Malformed,
-        startwords::Last::Got(state, next) => StartLine::Line(
-            Start::Response(id, d.value, state),
-            next,
-        ),
-    }
+    let last = startwords::last_state(f, at + 4)?;
+    Some(StartLine {
+        start: Start::Response(id, digits.value, last.state),
+        next: last.next,
+    })
 }
 
 // What stands behind a name: a request-id, and for an event a state.
-fn behind_name(f: &[u8], at: usize, name: message::Span) -> StartLine
+fn behind_name(f: &[u8], at: usize, name: Span) -> Option<StartLine>
     ensures { started_of result ≡ told (behind_name name) at (said (drop at f.now)) }
 {
-    let i = startwords::request_id(f, at);
-    match i {
-        startwords::Id::Wrong => StartLine::Malformed,
-        startwords::Id::Got(id, end) => {
-            if readers::crlf(f, end) {
-                return StartLine::Line(Start::Request(name, id), end + 2);
-            }
-            if !readers::has(f, end, b' ') {
-                return StartLine::Malformed;
-            }
-            let l = startwords::last_state(f, end + 1);
-            match l {
-                startwords::Last::Wrong => StartLine::Malformed,
-                startwords::Last::Got(state, next) => StartLine::Line(
-                    Start::Event(name, id, state),
-                    next,
-                ),
-            }
-        }
+    let id = startwords::request_id(f, at)?;
+    if readers::crlf(f, id.next) {
+        return Some(StartLine {
+            start: Start::Request(name, id.value),
+            next: id.next + 2,
+        });
     }
+    if !readers::has(f, id.next, b' ') {
+        return None;
+    }
+    let last = startwords::last_state(f, id.next + 1)?;
+    Some(StartLine {
+        start: Start::Event(name, id.value, last.state),
+        next: last.next,
+    })
 }
 
 // A request or an event: both begin with a name.
-fn named(f: &[u8], at: usize) -> StartLine
+// Here and below not by `get`: a reference in an Option is laid out for 64 bits (docs/DECISIONS.md).
+fn named(f: &[u8], at: usize) -> Option<StartLine>
     ensures { started_of result ≡ told (from_name at) at (said (drop at f.now)) }
 {
     if f.len() <= at {
-        return StartLine::Malformed;
+        return None;
     }
     if !octets::is_capital(f[at]) {
-        return StartLine::Malformed;
+        return None;
     }
     let end = startwords::name_end(f, at);
     let len = end - at;
-    if LONGEST_NAME < len {
-        return StartLine::Malformed;
+    if LONGEST_NAME < len || !readers::has(f, end, b' ') {
+        return None;
     }
-    if !readers::has(f, end, b' ') {
-        return StartLine::Malformed;
-    }
-    behind_name(f, end + 1, message::Span { start: at, len })
+    behind_name(f, end + 1, Span { start: at, len })
 }
 
 // The start line of the frame `f`, whose opening has `k` bytes. It goes over the line once.
-pub fn start_line(f: &[u8], k: usize) -> StartLine
+pub fn start_line(f: &[u8], k: usize) -> Option<StartLine>
     ensures { started_of result ≡ start_line_of k f.now }
 {
     if f.len() <= k {
-        return StartLine::Malformed;
+        return None;
     }
     if octets::is_digit(f[k]) {
-        return response(f, k);
+        response(f, k)
+    } else {
+        named(f, k)
     }
-    named(f, k)
 }
 
-// SET-PARAMS or GET-PARAMS. The length is looked at first, so that other names cost next to nothing.
+// SET-PARAMS or GET-PARAMS. Names of other lengths cost next to nothing. Not by `methodnames`: methods are a channel's,
+// of `synth`, and reading alone knows of none.
 pub fn is_params(name: &[u8]) -> bool
     ensures { result ≡ (same name.now (bytes "SET-PARAMS")
         || same name.now (bytes "GET-PARAMS")) }
 {
-    if name.len() != 10 {
-        return false;
-    }
-    if octets::equal(name, b"SET-PARAMS") {
-        return true;
-    }
-    octets::equal(name, b"GET-PARAMS")
+    octets::equal(name, b"SET-PARAMS") || octets::equal(name, b"GET-PARAMS")
 }
 
 // The start line is that of such a request.
 pub fn asks_params(f: &[u8], start: Start) -> bool
     ensures { result ≡ asks_params f.now (start_of start) }
 {
-    match start {
-        Start::Request(name, _) => is_params(message::part(f, name)),
-        Start::Response(_, _, _) => false,
-        Start::Event(_, _, _) => false,
-    }
+    matches!(start, Start::Request(name, _) if is_params(message::part(f, name)))
 }

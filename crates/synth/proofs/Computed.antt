@@ -5,6 +5,7 @@ use mathlib.Core.Bool.{true, false}
 use mathlib.Core.List.{List, map}
 use lib.Ieee.{binary32, to_bits, of_bits, div, of_int, round, units, odd, size, climb, span, lt, is_nan}
 use lib.ListN.{length}
+use Rattle.std.specs.Prelude.{Option}
 use Rattle.octets.specs.Octets.{bytes}
 use Rattle.writers.specs.Decimal.{digits, digits_within, three_digits}
 use Rattle.writers.specs.SelfLength.{self_length}
@@ -29,7 +30,6 @@ use Rattle.synth.specs.Judgement.{◌then◌, unless, version, well_formed, addr
 use Rattle.synth.specs.States.{Outcome, act, judge}
 use Rattle.synth.specs.declared.State.{State}
 use Rattle.synth.specs.declared.Entry.{Entry}
-use Rattle.synth.specs.declared.LastId.{LastId}
 use Rattle.synth.specs.Calls.{Call, Reply, input, report, back, deliver, reported, gone_back, call, open_channel}
 
 -- what a reader hears of bytes, and of a text
@@ -51,7 +51,7 @@ unfolding open_channel kind_of well_named
 opened name = (open_channel (bytes name)).channel
 
 -- a channel of that name, in that state, with these requests outstanding: the one place that spells a channel for a table
-abbrev pub channel : String → State → List Entry → LastId → View
+abbrev pub channel : String → State → List Entry → Option ℕ → View
 channel name state queue last = with_last last (with_queue state queue (fresh (bytes name)))
 
 -- an outstanding request that barge-in kills, and one that it spares

@@ -9,6 +9,7 @@ use native.Mathlib.Omega.{arith}
 use lib.Dec.{leb, lit<}
 use lib.ListN.{length, length-append, length-map}
 use lib.Ieee.{Float, lt}
+use Rattle.std.specs.Prelude.{Option, Some, None}
 use Rattle.lists.specs.Lists.{is_empty, Ascends, All, Split, gone}
 use Rattle.lists.proofs.Tests.{both, choose}
 use Rattle.lists.proofs.Membership.{elem_head}
@@ -32,8 +33,6 @@ use Rattle.synth.specs.Demand3.{accepting, closing, collected}
 use Rattle.synth.specs.declared.State.{State}
 use Rattle.synth.specs.declared.State.TheVariants.{Idle, Speaking, Recognizing, Recognized}
 use Rattle.synth.specs.declared.Entry.{Entry}
-use Rattle.synth.specs.declared.LastId.{LastId}
-use Rattle.synth.specs.declared.LastId.TheVariants.{NoneSeen, Seen}
 use Rattle.synth.proofs.Channels.{Small, small_by, Facts, held_small}
 use Rattle.synth.proofs.Methods.{while_agrees, while_ours}
 use Rattle.synth.proofs.Names.{name_fits_lem}
@@ -77,9 +76,9 @@ module _ (name : List ℕ) (fits : NameFits name) (cause : ℕ) (score : Float) 
   cancelled_ids (i ∷ l) = ap (λ (m : List ℕ). i ∷ m) (cancelled_ids l)
 
 -- a channel on which something is outstanding has seen a request
-seen_held : (last : LastId) (x : ℕ) (l : List ℕ) → Ascends 0 (x ∷ l) (first_above last) → (s : State) → idle_unseen last s ≡ true
-seen_held NoneSeen x l a s = let h = ascends_le (suc x) l 0 a.1 in absurd (omega arith)
-seen_held (Seen id) x l a s = refl
+seen_held : (last : Option ℕ) (x : ℕ) (l : List ℕ) → Ascends 0 (x ∷ l) (first_above last) → (s : State) → idle_unseen last s ≡ true
+seen_held None x l a s = let h = ascends_le (suc x) l 0 a.1 in absurd (omega arith)
+seen_held (Some id) x l a s = refl
 
 pub counted_cause : (threshold cause : ℕ) (score : Float) → cause < 16 → counted threshold cause score < 16
 counted_cause threshold cause score h =

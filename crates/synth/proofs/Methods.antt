@@ -7,6 +7,7 @@ use mathlib.Core.List.{List, [], ◌∷◌, map, tail}
 use lib.Dec.{leb}
 use lib.ListN.{length}
 use borrow.Author.Tests.{leb-true, ltb-true}
+use Rattle.std.specs.Prelude.{Some}
 use Rattle.lists.specs.Lists.{elem, put, keep, is_empty, Split, gone}
 use Rattle.lists.proofs.Tests.{both, choose}
 use Rattle.lists.proofs.Dealing.{split_none, split_all, split_keep}
@@ -26,7 +27,6 @@ use Rattle.synth.specs.declared.State.{State}
 use Rattle.synth.specs.declared.State.TheVariants.{Idle, Speaking, Paused, Recognizing, Recognized}
 use Rattle.synth.specs.declared.Method.{Method}
 use Rattle.synth.specs.declared.Entry.{Entry}
-use Rattle.synth.specs.declared.LastId.TheVariants.{Seen}
 use Rattle.synth.proofs.Channels.{Facts}
 use Rattle.synth.proofs.Verdicts.{then_passes, unless_passes, opening_passes, failing, early_fair, late_fair, Fair}
 use Rattle.synth.proofs.Outcomes.{Good, early_failed, seen, now_own, late_failed, accepted, unchanged, ended, edited, tells}
@@ -247,7 +247,7 @@ module _ (v : View) (f : Facts v) (r : Request) (small : r.id < 4294967296) (m :
       (unless_passes _ 410 (then_passes _ _ (then_passes _ _ (then_passes _ _ (then_passes _ _ e).1).1).1).1)
 
   early_good : (l : Verdict) → early v r ≡ l → Fair l → Good v m r.id (after_early l v r)
-  early_good passes e h = late_good v f r small (early_above e) m told (late (with_last (Seen r.id) v) r) refl (late_fair (with_last (Seen r.id) v) r)
+  early_good passes e h = late_good v f r small (early_above e) m told (late (with_last (Some r.id) v) r) refl (late_fair (with_last (Some r.id) v) r)
   early_good (fails status) e h = early_failed v f r small m status (failing status h)
 
   -- the ledger goes by the method that the request names, which a channel of this kind may lack

@@ -3,8 +3,7 @@ use Prim.Native.Nat.{ℕ}
 use mathlib.Core.Path.{◌≡◌, refl, subst}
 use mathlib.Core.List.{List}
 use native.Mathlib.Omega.{arith}
-use Rattle.framing.specs.Framing.{framing}
-use Rattle.framing.specs.declared.Framing.TheVariants.{Frame}
+use Rattle.framing.specs.Framing.{Frame, framing}
 use Rattle.message.specs.Message.{Start, Fields, Head, Reading, refused, message, part, on_reading}
 use Rattle.message.specs.Reading.{reading, read_bytes}
 use Rattle.message.specs.declared.Span.{Span}

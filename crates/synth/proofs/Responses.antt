@@ -5,6 +5,7 @@ use Prim.Native.Nat.{ℕ}
 use mathlib.Core.Path.{◌≡◌, refl}
 use mathlib.Core.Bool.{true}
 use mathlib.Core.List.{List, [], ◌∷◌}
+use Rattle.std.specs.Prelude.{Some}
 use Rattle.lists.proofs.Tests.{choose}
 use Rattle.message.specs.Message.{Message, Field}
 use Rattle.message.specs.declared.RequestState.{RequestState}
@@ -18,7 +19,6 @@ use Rattle.synth.specs.declared.State.{State}
 use Rattle.synth.specs.declared.State.TheVariants.{Speaking, Paused, Recognizing}
 use Rattle.synth.specs.declared.Method.{Method}
 use Rattle.synth.specs.declared.Entry.{Entry}
-use Rattle.synth.specs.declared.LastId.TheVariants.{Seen}
 use Rattle.synth.proofs.Verdicts.{is_failure, Fair, failing, early_fair, late_fair}
 
 module _ (name : List ℕ) (r : Request) (P : List Message → Type 0) where
@@ -68,7 +68,7 @@ module _ (v : View) (r : Request) (P : List Message → Type 0) (when-succeeds :
 module _ (v : View) (r : Request) (P : List Message → Type 0) (when-succeeds : OfSuccess v.name r P)
     (when-tells : OfTelling v.name r P) (when-fails : OfFailure v.name r P) where
   after_early_lem : (l : Verdict) → Fair l → P (after_early l v r).says
-  after_early_lem passes h = let seen : View = with_last (Seen r.id) v in after_late_lem seen r P when-succeeds when-tells when-fails (late seen r) (late_fair seen r)
+  after_early_lem passes h = let seen : View = with_last (Some r.id) v in after_late_lem seen r P when-succeeds when-tells when-fails (late seen r) (late_fair seen r)
   after_early_lem (fails status) h = when-fails status (failing status h)
 
   pub judged_says : P (judge v r).says

@@ -1,6 +1,6 @@
 -- A channel as it is viewed: document 01, "Numbers", "Refusal numbers" (soundness, opening) and "States and queue", and
 -- document 02, K1 and K5.
-use Rattle.std.specs.Prelude.{ℕ, suc, Bool, true, ◌&&◌, ◌||◌, not, List, [], ◌∷◌, map, leb, eqb, length, drop}
+use Rattle.std.specs.Prelude.{ℕ, suc, Bool, true, ◌&&◌, ◌||◌, not, List, [], ◌∷◌, map, leb, eqb, length, drop, Option, Some, None}
 use Rattle.std.specs.Bool.{beq}
 use Rattle.lists.specs.Lists.{run, all, same, is_empty, ascends}
 use Rattle.octets.specs.Octets.{is_digit, is_letter}
@@ -11,8 +11,6 @@ use Rattle.synth.specs.declared.State.{State}
 use Rattle.synth.specs.declared.State.TheVariants.{Idle, Speaking, Paused, Recognizing}
 use Rattle.synth.specs.declared.Entry.{Entry}
 use Rattle.synth.specs.declared.Edition.{Edition}
-use Rattle.synth.specs.declared.LastId.{LastId}
-use Rattle.synth.specs.declared.LastId.TheVariants.{NoneSeen, Seen}
 
 -- the outstanding requests, SPEAKs or RECOGNIZEs, stand in `queue`, the active one first, and the settings in `editions`, the newest
 -- first
@@ -20,14 +18,14 @@ pub record View : Type 0 where
   pub name : List ℕ
   pub state : State
   pub queue : List Entry
-  pub last : LastId
+  pub last : Option ℕ
   pub editions : List Edition
 
 -- with another state and queue, with another last id, and with a further edition: all else of a view stays
 abbrev pub with_queue : State → List Entry → View → View
 with_queue state queue v = record { name = v.name; state = state; queue = queue; last = v.last; editions = v.editions }
 
-abbrev pub with_last : LastId → View → View
+abbrev pub with_last : Option ℕ → View → View
 with_last last v = record { name = v.name; state = v.state; queue = v.queue; last = last; editions = v.editions }
 
 abbrev pub with_edition : Edition → View → View
@@ -36,7 +34,7 @@ with_edition e v =
 
 -- an opened channel is idle, with an empty queue, no request seen and one edition, all unset
 abbrev pub fresh : List ℕ → View
-fresh name = record { name = name; state = Idle; queue = []; last = NoneSeen; editions = unset ∷ [] }
+fresh name = record { name = name; state = Idle; queue = []; last = None; editions = unset ∷ [] }
 
 -- a channel name: 1 to 32 ASCII letters or digits, then `@speechsynth` or `@speechrecog`
 unfoldable pub well_named : List ℕ → Bool
@@ -62,14 +60,14 @@ abbrev pub is_busy : State → Bool
 is_busy s = is s Speaking || is s Paused || is s Recognizing
 
 -- none seen: idle
-abbrev pub idle_unseen : LastId → State → Bool
-idle_unseen NoneSeen s = is s Idle
-idle_unseen (Seen id) s = true
+abbrev pub idle_unseen : Option ℕ → State → Bool
+idle_unseen None s = is s Idle
+idle_unseen (Some id) s = true
 
 -- the first id above the last one seen; any is above on a fresh channel
-abbrev pub first_above : LastId → ℕ
-first_above NoneSeen = 0
-first_above (Seen id) = suc id
+abbrev pub first_above : Option ℕ → ℕ
+first_above None = 0
+first_above (Some id) = suc id
 
 -- Its name is well formed, its state is one of its kind's, idle (a synthesizer) exactly when nothing is outstanding, recognizing (a recognizer)
 -- exactly while any is, at most 16 or 8 are, and their ids rise in queue order with none above the last seen (none seen: idle), which is a

@@ -1,5 +1,5 @@
 -- States and queue, method by method: document 01, "States and queue", and document 02, K1 and K5.
-use Rattle.std.specs.Prelude.{ℕ, Bool, true, false, not, ◌&&◌, ◌||◌, List, [], ◌∷◌, ◌++◌, map, eqb, Float}
+use Rattle.std.specs.Prelude.{ℕ, Bool, true, false, not, ◌&&◌, ◌||◌, List, [], ◌∷◌, ◌++◌, map, eqb, Float, Some}
 use Rattle.std.proofs.Math.Option.{Option, none, some}
 use Rattle.std.specs.Float.Ieee.{lt}
 use Rattle.lists.specs.Lists.{elem, keep}
@@ -24,7 +24,6 @@ use Rattle.synth.specs.declared.Entry.{Entry}
 use Rattle.synth.specs.declared.Level.{Level}
 use Rattle.synth.specs.declared.Setting.{Setting}
 use Rattle.synth.specs.declared.Edition.{Edition}
-use Rattle.synth.specs.declared.LastId.TheVariants.{Seen}
 
 -- what is to be said, and the channel afterwards
 pub record Outcome : Type 0 where
@@ -178,7 +177,7 @@ after_late (fails status) v r = failed v r status
 
 -- once judgement 5 passes, the last id seen becomes this one, whatever the answer
 abbrev pub after_early : Verdict → View → Request → Outcome
-after_early passes v r = let seen : View = with_last (Seen r.id) v in after_late (late seen r) seen r
+after_early passes v r = let seen : View = with_last (Some r.id) v in after_late (late seen r) seen r
 after_early (fails status) v r = failed v r status
 
 unfoldable pub judge : View → Request → Outcome

@@ -2,7 +2,7 @@
 #![tactic(auto)]
 
 // A synthesizer is idle, speaking or paused, a recognizer idle, recognizing or recognized.
-#[derive(Clone, Copy)]
+#[derive(Clone, Copy, PartialEq, Eq, Debug)]
 pub enum State {
     Idle,
     Speaking,
@@ -12,7 +12,7 @@ pub enum State {
 }
 
 // The methods of document 01, of K1 and of K5; every other name is unknown.
-#[derive(Clone, Copy)]
+#[derive(Clone, Copy, PartialEq, Eq, Debug)]
 pub enum Method {
     Speak,
     Stop,
@@ -29,6 +29,7 @@ pub enum Method {
 
 // An outstanding request: its request-id, whether barge-in kills it, and the threshold of its score, in millionths: the
 // single-precision number is that of a level, and is worked out where the score is compared with it.
+// Any threshold: C's numbers may give more than a level has, and loading refuses them.
 #[derive(Clone, Copy)]
 pub struct Entry {
     pub id: u32,
@@ -44,6 +45,7 @@ pub struct Level {
 }
 
 // A setting: none, a yes or no, a whole number of milliseconds, or a level.
+// Unset is a case of the definitions and sort 0 of C's numbers: document 01 names the form.
 #[derive(Clone, Copy)]
 pub enum Setting {
     Unset,
@@ -60,11 +62,4 @@ pub struct Edition {
     pub silence: Setting,
     pub confidence: Setting,
     pub sensitivity: Setting,
-}
-
-// The last request-id seen on a channel.
-#[derive(Clone, Copy)]
-pub enum LastId {
-    NoneSeen,
-    Seen(u32),
 }

@@ -9,19 +9,8 @@ ghost use Rattle.answer.specs.declared.Kind.{Kind};
 ghost use Rattle.synth.specs.Settings.{level_text, setting_text, setting_field};
 ghost use Rattle.told.specs.Told.{told};
 
-// The bits of settings in a mask of field names.
-const KILL_ON_BARGE_IN: u16 = 16;
-
-const CONFIDENCE_THRESHOLD: u16 = 256;
-
-const FETCH_TIMEOUT: u16 = 512;
-
-const NO_INPUT_TIMEOUT: u16 = 1024;
-
-const SENSITIVITY_LEVEL: u16 = 2048;
-
 // Fields, one behind the other: the first `count` of the bytes. The longest, three of a recognizer whose values have 20
-// bytes each, have 122.
+// bytes each, have 122. An array, since there is no heap.
 #[derive(Clone, Copy)]
 pub struct Fields {
     pub bytes: [u8; 128],
@@ -34,7 +23,7 @@ fn put_level(out: &mut [u8], at: usize, l: synth::Level) -> usize
     ensures { Wrote out.old at (level_text l) out.new result × (result ≤ at + 20) }
 {
     let m = l.millionths;
-    let p = writers::put_digits(out, at, (m / 1000000) as u64);
+    let p = writers::put_digits(out, at, u64::from(m / 1000000));
     let q = writers::put_bytes(out, p, b".");
     let r = writers::put_three(out, q, m / 1000 % 1000);
     writers::put_three(out, r, m % 1000)
@@ -47,13 +36,8 @@ fn put_value(out: &mut [u8], at: usize, x: synth::Setting) -> usize
 {
     match x {
         synth::Setting::Unset => at,
-        synth::Setting::Flag(b) => {
-            if b {
-                writers::put_bytes(out, at, b"true")
-            } else {
-                writers::put_bytes(out, at, b"false")
-            }
-        }
+        synth::Setting::Flag(true) => writers::put_bytes(out, at, b"true"),
+        synth::Setting::Flag(false) => writers::put_bytes(out, at, b"false"),
         synth::Setting::Millis(n) => writers::put_digits(out, at, n),
         synth::Setting::Level(l) => put_level(out, at, l),
     }
@@ -66,14 +50,13 @@ fn put_field(out: &mut [u8], at: usize, asked: bool, name: &[u8], x: synth::Sett
         (fields_text (put asked (record { name = name.entry.now; value = setting_text x }) []))
         out.new result × (result ≤ at + (23 + length name.entry.now)) }
 {
-    if asked {
-        let p = writers::put_bytes(out, at, name);
-        let q = writers::put_bytes(out, p, b":");
-        let r = put_value(out, q, x);
-        writers::put_bytes(out, r, b"\r\n")
-    } else {
-        at
+    if !asked {
+        return at;
     }
+    let p = writers::put_bytes(out, at, name);
+    let q = writers::put_bytes(out, p, b":");
+    let r = put_value(out, q, x);
+    writers::put_bytes(out, r, b"\r\n")
 }
 
 // The settings of a synthesizer, at the front.
@@ -82,47 +65,49 @@ fn put_synthesizer(out: &mut [u8], e: synth::Edition, asked: u16) -> usize
     ensures { Wrote out.old 0 (fields_text (map (setting_field e) (told Kind.Synthesizer asked)))
         out.new result }
 {
-    let kill = e.kill;
-    let fetch = e.fetch;
     let p = put_field(
         out,
         0,
-        asked & KILL_ON_BARGE_IN != 0,
+        asked & names::KILL_ON_BARGE_IN != 0,
         b"Kill-On-Barge-In",
-        kill,
+        e.kill,
     );
-    put_field(out, p, asked & FETCH_TIMEOUT != 0, b"Fetch-Timeout", fetch)
+    put_field(
+        out,
+        p,
+        asked & names::FETCH_TIMEOUT != 0,
+        b"Fetch-Timeout",
+        e.fetch,
+    )
 }
 
 // The settings of a recognizer, at the front.
+// A function for each kind: the fields are named, so a list of them would be no plainer.
 fn put_recognizer(out: &mut [u8], e: synth::Edition, asked: u16) -> usize
     requires { 128 ≤ length out.old }
     ensures { Wrote out.old 0 (fields_text (map (setting_field e) (told Kind.Recognizer asked)))
         out.new result }
 {
-    let silence = e.silence;
-    let confidence = e.confidence;
-    let sensitivity = e.sensitivity;
     let p = put_field(
         out,
         0,
-        asked & NO_INPUT_TIMEOUT != 0,
+        asked & names::NO_INPUT_TIMEOUT != 0,
         b"No-Input-Timeout",
-        silence,
+        e.silence,
     );
     let q = put_field(
         out,
         p,
-        asked & CONFIDENCE_THRESHOLD != 0,
+        asked & names::CONFIDENCE_THRESHOLD != 0,
         b"Confidence-Threshold",
-        confidence,
+        e.confidence,
     );
     put_field(
         out,
         q,
-        asked & SENSITIVITY_LEVEL != 0,
+        asked & names::SENSITIVITY_LEVEL != 0,
         b"Sensitivity-Level",
-        sensitivity,
+        e.sensitivity,
     )
 }
 

@@ -1,3 +1,2 @@
 mod Indexing
 mod Judging
-pub mod Looking

@@ -1,21 +1,23 @@
 -- The file of some messages is read as these messages, and what is read is such a file. Assumes nothing.
 use Prim.Native.Nat.{ℕ, zero, suc, ◌+◌, ◌-◌, ◌*◌, ◌≤◌, ◌<◌}
 use mathlib.Core.Path.{◌≡◌, refl, sym, ap, ap₂, subst, ◌∙◌}
-use mathlib.Core.Bool.{Bool, true, false, ◌&&◌}
+use mathlib.Core.Bool.{true}
 use mathlib.Core.Option.{Option, none, some}
 use mathlib.Core.List.{List, [], ◌∷◌, ◌++◌, append_assoc, append-nil}
 use native.Mathlib.Omega.{arith}
-use lib.Dec.{eqb, leb}
 use lib.ListN.{length, take, drop, get_or, length-append, take-append-drop}
 use lib.Seq.{take-append_seam, drop-append_seam, drop-append-add, drop-drop, take_at, drop_at, length-take-le}
-use borrow.Author.Tests.{eqb-true, eq-eqb, leb-true, le-leb}
+use borrow.Author.Tests.{eq-eqb, le-leb}
+use Rattle.std.proofs.lemmas.Grind.{common_steps}
 use Rattle.lists.specs.Lists.{same, All}
-use Rattle.lists.proofs.Tests.{both}
 use Rattle.lists.proofs.Scans.{same_so}
 use Rattle.octets.specs.Octets.{bytes}
+use Rattle.octets.proofs.Texts.{same_self}
+use Rattle.std.specs.Prelude.{Ok, Err}
+use Rattle.traces.specs.declared.Refusal.{Refusal}
 use Rattle.traces.specs.Traces.{four, little, number_at, flat, index, trailer, ending, file, OneFrame, IsFile}
-use Rattle.traces.specs.Traces.{frames_in, refused, messages, indexed, trailed, begin_of, count_of, trace_of, entry}
-use Rattle.traces.proofs.Numbers.{Octets, four_back, four_length, four_at, same_self}
+use Rattle.traces.specs.Traces.{frames_in, indexed, trailed, begin_of, count_of, trace_of, entry}
+use Rattle.traces.proofs.Numbers.{Octets, four_back, four_length, four_at}
 use Rattle.traces.proofs.Walking.{Walked, frames_flat, frames_so}
 
 -- the index has four bytes for each
@@ -113,23 +115,23 @@ module _ (ms : List (List ℕ)) (few : length (file ms) ≤ 65536) where
       ap (take (4 * count)) (drop-append_seam (flat ms) (ending ms))
       ∙ take_at (index 0 ms) (trailer begin count) (4 * count) (index_length 0 ms)
 
-  indexed_so : indexed f begin count (some ms) ≡ messages ms
+  indexed_so : indexed f begin count (some ms) ≡ Ok ms
   indexed_so =
       rw (eq-eqb (length ms) count refl, same_it (take (4 * count) (drop begin f)) (index 0 ms) all_entries, indexed)
 
-  pub file_read : All OneFrame ms → trace_of f ≡ messages ms
+  pub file_read : All OneFrame ms → trace_of f ≡ Ok ms
   unfolding trace_of
   file_read w =
       rw (le-leb 12 (length f) (omega (arith, size)), le-leb (length f) 65536 few, trace_of)
       (ap₂ (trailed f) at_begin at_count ∙ trailed_so)
     where
-      trailed_so : trailed f begin count ≡ messages ms
+      trailed_so : trailed f begin count ≡ Ok ms
       trailed_so =
           let e = eq-eqb (begin + 4 * count + 12) (length f) (sym size) in
           rw (same_it (drop (length f - 4) f) (bytes "MTRC") letters, e, trailed)
           (ap (indexed f begin count) (ap frames_in all_messages ∙ frames_flat ms w) ∙ indexed_so)
 
-never : {C : Type 0} {n : ℕ} {ms : List (List ℕ)} → refused n ≡ messages ms → C
+never : {C : Type 0} {r : Refusal} {ms : List (List ℕ)} → Err r ≡ Ok ms → C
 never e = let d : ◌≡◌ {A = ℕ} 0 1 = cc in absurd (omega arith)
 
 -- a file that is read as ms
@@ -149,7 +151,8 @@ module _ (f : List ℕ) (o : Octets f) (ms : List (List ℕ)) where
           drop-drop 4 (length f - i) f ∙ ap (λ k. drop k f) {x = length f - i + 4} {y = length f - j} (omega arith)
 
   module _ (least : 12 ≤ length f) (most : length f ≤ 65536) (e : drop (length f - 4) f ≡ bytes "MTRC")
-      (begin count : ℕ) (eb : begin_of f ≡ begin) (ec : count_of f ≡ count) (n : begin + 4 * count + 12 ≡ length f) where
+      (begin count : ℕ) (eb : begin_of f ≡ begin) (ec : count_of f ≡ count)
+      (n : begin + 4 * count + 12 ≡ length f) where
     made_of : Walked (take begin f) ms → length ms ≡ count → take (4 * count) (drop begin f) ≡ index 0 ms → IsFile f ms
     unfolding file
     made_of w l i =
@@ -165,40 +168,27 @@ module _ (f : List ℕ) (o : Octets f) (ms : List (List ℕ)) where
           most = most;
         }
 
-    indexed_made : (r : Option (List (List ℕ))) → frames_in (take begin f) ≡ r → indexed f begin count r ≡ messages ms
+    indexed_made : (r : Option (List (List ℕ))) → frames_in (take begin f) ≡ r → indexed f begin count r ≡ Ok ms
         → IsFile f ms
     indexed_made none q g = never g
-    indexed_made (some ks) q g = go (eqb (length ks) count && same (take (4 * count) (drop begin f)) (index 0 ks)) refl
-      where
-        go : (b : Bool) → eqb (length ks) count && same (take (4 * count) (drop begin f)) (index 0 ks) ≡ b → IsFile f ms
-        go true b =
-            let z = rw (b, indexed) at g in
-            let p : ks ≡ ms = cc in
-            let (x, y) = both _ _ b in
-            made_of (subst (Walked (take begin f)) p (frames_so (take begin f) ks q))
-            (ap length (sym p) ∙ eqb-true _ _ x) (same_so _ _ y ∙ ap (index 0) p)
-        go false b = never (rw (b, indexed) at g)
+    indexed_made (some ks) q g =
+        let p : ks ≡ ms = grind (arith, common_steps) in
+        let size : length ks ≡ count = grind (arith, common_steps) in
+        let entries : same (take (4 * count) (drop begin f)) (index 0 ks) ≡ true = grind (arith, common_steps) in
+        made_of (subst (Walked (take begin f)) p (frames_so (take begin f) ks q))
+        (ap length (sym p) ∙ size) (same_so _ _ entries ∙ ap (index 0) p)
 
-  trailed_made : 12 ≤ length f → length f ≤ 65536 → trailed f (begin_of f) (count_of f) ≡ messages ms → IsFile f ms
-  trailed_made least most g =
-      go (same (drop (length f - 4) f) (bytes "MTRC") && eqb (begin_of f + 4 * count_of f + 12) (length f)) refl
-    where
-      go : (b : Bool)
-          → same (drop (length f - 4) f) (bytes "MTRC") && eqb (begin_of f + 4 * count_of f + 12) (length f) ≡ b
-          → IsFile f ms
-      go true b =
-          let (x, y) = both _ _ b in
-          indexed_made least most (same_so _ _ x) (begin_of f) (count_of f) refl refl (eqb-true _ _ y)
-          (frames_in (take (begin_of f) f)) refl (rw (b, trailed) at g)
-      go false b = never (rw (b, trailed) at g)
-
-  pub read_file : trace_of f ≡ messages ms → IsFile f ms
+  pub read_file : trace_of f ≡ Ok ms → IsFile f ms
   unfolding trace_of
-  read_file g = go (leb 12 (length f) && leb (length f) 65536) refl
-    where
-      go : (b : Bool) → leb 12 (length f) && leb (length f) 65536 ≡ b → IsFile f ms
-      go true b = let (x, y) = both _ _ b in trailed_made (leb-true _ _ x) (leb-true _ _ y) (rw (b, trace_of) at g)
-      go false b = never (rw (b, trace_of) at g)
+  read_file g =
+      let least : 12 ≤ length f = grind (arith, common_steps) in
+      let most : length f ≤ 65536 = grind (arith, common_steps) in
+      let letters : same (drop (length f - 4) f) (bytes "MTRC") ≡ true = grind (arith, common_steps) in
+      let ends : begin_of f + 4 * count_of f + 12 ≡ length f = grind (arith, common_steps) in
+      let i : indexed f (begin_of f) (count_of f) (frames_in (take (begin_of f) f)) ≡ Ok ms =
+      grind (arith, common_steps) in
+      indexed_made least most (same_so _ _ letters) (begin_of f) (count_of f) refl refl ends
+      (frames_in (take (begin_of f) f)) refl i
 
 -- where message k, from 0, begins, by walking
 abbrev pub begins : List (List ℕ) → ℕ → ℕ

@@ -8,10 +8,10 @@ use native.Mathlib.Omega.{arith}
 use lib.Dec.{eqb}
 use lib.ListN.{length, take, drop, get_or, length-drop}
 use lib.Seq.{length-take-le}
-use borrow.Author.Tests.{eq-eqb}
 use Rattle.lists.specs.Lists.{same, All}
 use Rattle.lists.proofs.Tests.{refuted}
 use Rattle.lists.proofs.Scans.{same_so}
+use Rattle.octets.proofs.Texts.{same_self}
 use Rattle.readers.proofs.Positions.{here}
 use Rattle.traces.specs.Traces.{in_bytes, four, little, number_at}
 
@@ -67,19 +67,17 @@ four_bytes f at h =
     let three = here f (at + 2) (omega arith) ∙ next (at + 2) (at + 3) (omega arith) in
     let last = here f (at + 3) (omega arith) ∙ next (at + 3) (at + 4) (omega arith) in
     one
-    ∙ ap (λ l. get_or f at 0 ∷ l) (two ∙ ap (λ l. get_or f (at + 1) 0 ∷ l) (three ∙ ap (λ l. get_or f (at + 2) 0 ∷ l) last))
+    ∙ ap (λ l. get_or f at 0 ∷ l) (two
+    ∙ ap (λ l. get_or f (at + 1) 0 ∷ l) (three ∙ ap (λ l. get_or f (at + 2) 0 ∷ l) last))
   where
     next : (i j : ℕ) → i + 1 ≡ j → get_or f i 0 ∷ drop (i + 1) f ≡ get_or f i 0 ∷ drop j f
     next i j e = ap (λ (k : ℕ). get_or f i 0 ∷ drop k f) e
 
 pub number_is : (f : List ℕ) (at : ℕ) → at + 4 ≤ length f
-    → get_or f at 0 + 256 * (get_or f (at + 1) 0 + 256 * (get_or f (at + 2) 0 + 256 * get_or f (at + 3) 0)) ≡ number_at f at
+    → get_or f at 0 + 256 * (get_or f (at + 1) 0 + 256 * (get_or f (at + 2) 0 + 256 * get_or f (at + 3) 0))
+    ≡ number_at f at
 unfolding number_at
 number_is f at h = rw (four_bytes f at h) (omega arith)
-
-pub same_self : (l : List ℕ) → same l l ≡ true
-same_self [] = refl
-same_self (x ∷ l) = rw (eq-eqb x x refl) (same_self l)
 
 pub same_append : (a b c d : List ℕ) → length a ≡ length c → same (a ++ b) (c ++ d) ≡ same a c && same b d
 same_append [] b [] d e = refl

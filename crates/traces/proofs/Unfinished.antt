@@ -2,25 +2,24 @@
 -- file. Assumes nothing.
 use Prim.Native.Nat.{ℕ, ◌+◌, ◌*◌, ◌≤◌, min}
 use mathlib.Core.Path.{◌≡◌, refl, sym, ap, ap₂, ◌∙◌}
-use mathlib.Core.Bool.{Bool, true, false, ◌&&◌, or-true, false≢true}
+use mathlib.Core.Bool.{true, ◌&&◌, or-true, false≢true}
 use mathlib.Core.Logic.{◌⊎◌, inl, inr}
 use mathlib.Core.Option.{Option, none, some}
 use mathlib.Core.List.{List, [], ◌∷◌, ◌++◌, append_assoc, append-nil}
 use native.Mathlib.Omega.{arith}
 use lib.Dec.{eqb}
 use lib.ListN.{length, take, drop, length-append}
-use lib.Seq.{take_at, length-take-le, drop-append-add, take-append_seam}
+use lib.Seq.{take_at, length-take-le, drop-append-add, drop-append_seam, take-append_seam}
 use borrow.Author.Tests.{eqb-true, eq-eqb, leb-true, le-leb}
 use Rattle.lists.specs.Lists.{All}
 use Rattle.lists.proofs.Tests.{both, either}
 use Rattle.writers.specs.Buffer.{put}
 use Rattle.writers.proofs.Put.{kept}
-use Rattle.framing.specs.Framing.{framing}
-use Rattle.framing.specs.declared.Framing.{Framing}
-use Rattle.framing.specs.declared.Framing.TheVariants.{More, NoMessage, TooLong, TooShort, Frame}
-use Rattle.traces.specs.Traces.{flat, OneFrame, frames_in, fits, so_many, can_be_left, is_one, recorded, finished}
-use Rattle.traces.specs.declared.Recorded.{Recorded}
-use Rattle.traces.specs.declared.Finished.{Finished}
+use Rattle.framing.specs.Framing.{Framing, Frame, framing}
+use Rattle.framing.specs.declared.NoFrame.TheVariants.{More, NoMessage, TooLong, TooShort}
+use Rattle.traces.specs.Traces.{flat, OneFrame, frames_in, fits, so_many, can_be_left, is_one, recorded}
+use Rattle.std.specs.Prelude.{Ok, Err}
+use Rattle.std.proofs.lemmas.Grind.{common_steps}
 use Rattle.traces.proofs.Walking.{frames_flat, frames_so}
 
 pub record Holds (ms : List (List ℕ)) (out : List ℕ) (used count : ℕ) : Type 0 where
@@ -103,15 +102,15 @@ module _ (out : List ℕ) (used count : ℕ) where
 
 -- exactly one frame, as a test
 one_by : (m : List ℕ) (x : Framing) → framing m ≡ x → is_one (length m) x ≡ true → OneFrame m
-one_by m More e h = absurd (false≢true h)
-one_by m NoMessage e h = absurd (false≢true h)
-one_by m TooLong e h = absurd (false≢true h)
-one_by m TooShort e h = absurd (false≢true h)
-one_by m (Frame a b k n) e h = record {
-  major = a;
-  minor = b;
-  opens = k;
-  frame = e ∙ ap (Frame a b k) (eqb-true n (length m) h);
+one_by m (Err More) e h = absurd (false≢true h)
+one_by m (Err NoMessage) e h = absurd (false≢true h)
+one_by m (Err TooLong) e h = absurd (false≢true h)
+one_by m (Err TooShort) e h = absurd (false≢true h)
+one_by m (Ok f) e h = record {
+  major = f.major;
+  minor = f.minor;
+  opens = f.opening;
+  frame = e ∙ ap (Frame f.major f.minor f.opening) (eqb-true f.length (length m) h);
 }
 
 pub is_one_lem : (m : List ℕ) → is_one (length m) (framing m) ≡ true → OneFrame m
@@ -131,62 +130,24 @@ pub record Goes (out : List ℕ) (used count : ℕ) (m : List ℕ) (u c : ℕ) :
 module _ (out : List ℕ) (used count : ℕ) (m : List ℕ) where
   pub goes_on : can_be_left out used count ≡ true → is_one (length m) (framing m) ≡ true
       → fits (length out) (used + length m) (count + 1) ≡ true
-      → recorded out used count m ≡ Recorded.Left (used + length m) (count + 1)
+      → recorded out used count m ≡ Ok (record { used = used + length m; count = count + 1 })
   unfolding recorded
   goes_on p q r = rw (p, q, r, recorded)
 
-  pub not_left : can_be_left out used count ≡ false → recorded out used count m ≡ Recorded.Refused 13
+  pub goes : (u c : ℕ) → recorded out used count m ≡ Ok (record { used = u; count = c }) → Goes out used count m u c
   unfolding recorded
-  not_left p = rw (p, recorded)
-
-  pub not_one : can_be_left out used count ≡ true → is_one (length m) (framing m) ≡ false
-      → recorded out used count m ≡ Recorded.Refused 14
-  unfolding recorded
-  not_one p q = rw (p, q, recorded)
-
-  pub no_room : can_be_left out used count ≡ true → is_one (length m) (framing m) ≡ true
-      → fits (length out) (used + length m) (count + 1) ≡ false → recorded out used count m ≡ Recorded.Refused 7
-  unfolding recorded
-  no_room p q r = rw (p, q, r, recorded)
-
-  pub goes : (u c : ℕ) → recorded out used count m ≡ Recorded.Left u c → Goes out used count m u c
   goes u c e =
-      go (can_be_left out used count) (is_one (length m) (framing m)) (fits (length out) (used + length m) (count + 1))
-      refl refl refl
-    where
-      other : {n : ℕ} → recorded out used count m ≡ Recorded.Refused n → Goes out used count m u c
-      other f = let d : ◌≡◌ {A = ℕ} 0 1 = cc in absurd (omega arith)
-
-      go : (x y z : Bool) → can_be_left out used count ≡ x → is_one (length m) (framing m) ≡ y
-          → fits (length out) (used + length m) (count + 1) ≡ z → Goes out used count m u c
-      go false y z p q r = other (not_left p)
-      go true false z p q r = other (not_one p q)
-      go true true false p q r = other (no_room p q r)
-      go true true true p q r =
-          let l = goes_on p q r in
-          record {
-            can = p;
-            one = is_one_lem m q;
-            fit = fit_so (length out) (used + length m) (count + 1) r;
-            used_then = cc;
-            count_then = cc;
-          }
-
--- finishing, by its three ways
-module _ (out : List ℕ) (used count : ℕ) where
-  pub ends_not : can_be_left out used count ≡ false → finished out used count ≡ Finished.Refused 13
-  unfolding finished
-  ends_not p = rw (p, finished)
-
-  pub ends_over : can_be_left out used count ≡ true → fits (length out) used count ≡ false
-      → finished out used count ≡ Finished.Refused 7
-  unfolding finished
-  ends_over p q = rw (p, q, finished)
-
-  pub ends : can_be_left out used count ≡ true → fits (length out) used count ≡ true
-      → finished out used count ≡ Finished.File (used + 4 * count + 12)
-  unfolding finished
-  ends p q = rw (p, q, finished)
+      let p : can_be_left out used count ≡ true = grind (arith, common_steps) in
+      let q : is_one (length m) (framing m) ≡ true = grind (arith, common_steps) in
+      let r : fits (length out) (used + length m) (count + 1) ≡ true = grind (arith, common_steps) in
+      let l = goes_on p q r in
+      record {
+        can = p;
+        one = is_one_lem m q;
+        fit = fit_so (length out) (used + length m) (count + 1) r;
+        used_then = grind arith;
+        count_then = grind arith;
+      }
 
 -- lists of messages, one longer
 pub flat_append : (ms ns : List (List ℕ)) → flat (ms ++ ns) ≡ flat ms ++ flat ns
@@ -217,12 +178,8 @@ pub put_there : (a m rest : List ℕ) → put (a ++ (m ++ rest)) (length a) m �
 unfolding put
 put_there a m rest =
     ap₂ (λ x y. x ++ m ++ y) (take-append_seam a (m ++ rest))
-    (drop-append-add a (m ++ rest) (length m) ∙ gone m)
+    (drop-append-add a (m ++ rest) (length m) ∙ drop-append_seam m rest)
     ∙ append_assoc a m rest
-  where
-    gone : (m : List ℕ) → drop (length m) (m ++ rest) ≡ rest
-    gone [] = refl
-    gone (x ∷ m) = gone m
 
 pub holds_more : (ms : List (List ℕ)) (out : List ℕ) (used count : ℕ) (m : List ℕ) (u c : ℕ) → Holds ms out used count
     → Goes out used count m u c → Holds (ms ++ m ∷ []) (put out used m) u c

@@ -9,9 +9,9 @@ use native.Mathlib.Omega.{arith}
 use lib.ListN.{length, take, drop, length-append, length-drop, take-append-drop}
 use lib.Seq.{take-append_seam, drop-append_seam, length-take-le}
 use Rattle.lists.specs.Lists.{is_empty, All}
-use Rattle.framing.specs.Framing.{framing, refusal}
-use Rattle.framing.specs.declared.Framing.{Framing}
-use Rattle.framing.specs.declared.Framing.TheVariants.{More, NoMessage, TooLong, TooShort, Frame}
+use Rattle.framing.specs.Framing.{Framing, Frame, framing, refusal}
+use Rattle.framing.specs.declared.Framed.{Framed}
+use Rattle.std.specs.Prelude.{Ok, Err}
 use Rattle.framing.proofs.Frames.{frame_fits}
 use Rattle.framing.proofs.Theorems.FrameAlone.{frame_alone, more_bytes}
 use Rattle.traces.specs.Traces.{flat, OneFrame, ahead, frames_on, walk, frames_in}
@@ -83,11 +83,8 @@ module _ (s : List ℕ) (on : List ℕ → Option (List (List ℕ)))
       })
 
   frames_walked : (x : Framing) → framing s ≡ x → (ms : List (List ℕ)) → frames_on s x on ≡ some ms → Walked s ms
-  frames_walked More f ms e = none_some e
-  frames_walked NoMessage f ms e = none_some e
-  frames_walked TooLong f ms e = none_some e
-  frames_walked TooShort f ms e = none_some e
-  frames_walked (Frame a b k n) f ms e = ahead_walked a b k n f (on (drop n s)) refl ms e
+  frames_walked (Err why) f ms e = none_some e
+  frames_walked (Ok x) f ms e = ahead_walked x.major x.minor x.opening x.length f (on (drop x.length s)) refl ms e
 
 walk_so : (fuel : ℕ) (s : List ℕ) (ms : List (List ℕ)) → walk fuel s ≡ some ms → Walked s ms
 unfolding walk
@@ -107,18 +104,17 @@ pub frames_so : (s : List ℕ) (ms : List (List ℕ)) → frames_in s ≡ some m
 frames_so s ms e = walk_so (length s) s ms e
 
 -- a frame takes some bytes, and no more than are there
-pub frame_takes : (s : List ℕ) (a b k n : ℕ) → framing s ≡ Frame a b k n → (1 ≤ n) × (n ≤ length s)
-frame_takes s a b k n e = let f = frame_fits s a b k n e in (omega (arith, f.opens, f.least), f.there)
+pub frame_takes : (s : List ℕ) (f : Framed) → framing s ≡ Ok f → (1 ≤ f.length) × (f.length ≤ length s)
+frame_takes s f e =
+    let x = frame_fits s f.major f.minor f.opening f.length e in
+    (omega (arith, x.opens, x.least), x.there)
 
 frames_alike : (s : List ℕ) (x : Framing) (f g : List ℕ → Option (List (List ℕ))) → framing s ≡ x
     → ((n : ℕ) → 1 ≤ n → n ≤ length s → f (drop n s) ≡ g (drop n s)) → frames_on s x f ≡ frames_on s x g
-frames_alike s More f g e h = refl
-frames_alike s NoMessage f g e h = refl
-frames_alike s TooLong f g e h = refl
-frames_alike s TooShort f g e h = refl
-frames_alike s (Frame a b k n) f g e h =
-    let t = frame_takes s a b k n e in
-    ap (ahead (take n s)) (h n t.0 t.1)
+frames_alike s (Err why) f g e h = refl
+frames_alike s (Ok x) f g e h =
+    let t = frame_takes s x e in
+    ap (ahead (take x.length s)) (h x.length t.0 t.1)
 
 walk_enough : (n m : ℕ) (s : List ℕ) → length s ≤ n → length s ≤ m → walk n s ≡ walk m s
 unfolding walk

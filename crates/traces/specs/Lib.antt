@@ -1,2 +1,2 @@
+pub mod Refusals
 pub mod Traces
-pub mod Steps

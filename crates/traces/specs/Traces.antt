@@ -1,21 +1,16 @@
 -- The trace file: document 02, K7.
-use Prim.Native.Nat.{ℕ, zero, suc, ◌+◌, ◌-◌, ◌*◌, ◌/◌, ◌%◌, ◌≤◌, min}
-use mathlib.Core.Path.{◌≡◌}
-use mathlib.Core.Bool.{Bool, true, false, ◌&&◌, ◌||◌}
 use mathlib.Core.Option.{Option, none, some}
-use mathlib.Core.List.{List, [], ◌∷◌, ◌++◌}
-use lib.Dec.{eqb, leb}
-use lib.ListN.{length, take, drop}
+use Rattle.std.specs.Prelude.{ℕ, zero, suc, ◌+◌, ◌-◌, ◌*◌, ◌/◌, ◌%◌, ◌≤◌, ◌≡◌, min, eqb, leb}
+use Rattle.std.specs.Prelude.{Bool, true, false, ◌&&◌, ◌||◌, List, [], ◌∷◌, ◌++◌, length, take, drop}
+use Rattle.std.specs.Prelude.{Result, Ok, Err}
 use Rattle.lists.specs.Lists.{same, is_empty, All}
 use Rattle.octets.specs.Octets.{bytes}
 use Rattle.writers.specs.Buffer.{put}
-use Rattle.framing.specs.Framing.{framing, refusal, frame_length}
-use Rattle.framing.specs.declared.Framing.{Framing}
-use Rattle.framing.specs.declared.Framing.TheVariants.{More, NoMessage, TooLong, TooShort, Frame}
+use Rattle.framing.specs.Framing.{Framing, Frame, framing, refusal, frame_length}
 use Rattle.message.specs.Message.{part}
-use Rattle.traces.specs.declared.Entry.{Entry}
+use Rattle.message.specs.declared.Span.{Span}
+use Rattle.traces.specs.declared.Refusal.{Refusal}
 use Rattle.traces.specs.declared.Recorded.{Recorded}
-use Rattle.traces.specs.declared.Finished.{Finished}
 
 -- The form of a file.
 
@@ -79,11 +74,8 @@ ahead m (some ms) = some (m ∷ ms)
 
 -- the frame at the front of s, and then what is made of the rest
 abbrev pub frames_on : List ℕ → Framing → (List ℕ → Option (List (List ℕ))) → Option (List (List ℕ))
-frames_on s More on = none
-frames_on s NoMessage on = none
-frames_on s TooLong on = none
-frames_on s TooShort on = none
-frames_on s (Frame major minor k n) on = ahead (take n s) (on (drop n s))
+frames_on s (Err why) on = none
+frames_on s (Ok f) on = ahead (take f.length s) (on (drop f.length s))
 
 -- frames end to end, for a fuel of at least as many as there are bytes
 unfoldable pub walk : ℕ → List ℕ → Option (List (List ℕ))
@@ -94,24 +86,23 @@ walk (suc fuel) s = elim (is_empty s) [ true ↦ some [] | false ↦ frames_on s
 abbrev pub frames_in : List ℕ → Option (List (List ℕ))
 frames_in s = walk (length s) s
 
--- what a file is: the number of a refusal, or its messages
-pub data Trace : Type 0 where
-  refused : ℕ → Trace
-  messages : List (List ℕ) → Trace
+-- what a file is: its messages, or why it is refused
+abbrev pub Trace : Type 0
+Trace = Result (List (List ℕ)) Refusal
 
 -- 14 if an entry or a frame is wrong or bytes are left before the index
 abbrev pub indexed : List ℕ → ℕ → ℕ → Option (List (List ℕ)) → Trace
-indexed f begin count none = refused 14
+indexed f begin count none = Err Refusal.Misframed
 indexed f begin count (some ms) = elim (eqb (length ms) count && same (take (4 * count) (drop begin f)) (index 0 ms)) [
-  | true ↦ messages ms
-  | false ↦ refused 14
+  | true ↦ Ok ms
+  | false ↦ Err Refusal.Misframed
 ]
 
 -- 13 if the letters are wrong, or index and trailer do not end the file exactly
 abbrev pub trailed : List ℕ → ℕ → ℕ → Trace
 trailed f begin count = elim (same (drop (length f - 4) f) (bytes "MTRC") && eqb (begin + 4 * count + 12) (length f)) [
   | true ↦ indexed f begin count (frames_in (take begin f))
-  | false ↦ refused 13
+  | false ↦ Err Refusal.NoTrace
 ]
 
 -- where the index begins, and how many entries, as the trailer says
@@ -125,7 +116,7 @@ count_of f = number_at f (length f - 8)
 unfoldable pub trace_of : List ℕ → Trace
 trace_of f = elim (leb 12 (length f) && leb (length f) 65536) [
   | true ↦ trailed f (begin_of f) (count_of f)
-  | false ↦ refused 13
+  | false ↦ Err Refusal.NoTrace
 ]
 
 -- entry k, from 0; behind the last one stands where the index begins
@@ -133,20 +124,20 @@ abbrev pub entry : List ℕ → ℕ → ℕ
 entry f k = number_at f (begin_of f + 4 * k)
 
 -- message n, from 1, as a part of the file: from its entry to the next; 22 if there is no message n
-abbrev pub handed : List ℕ → ℕ → Trace → Entry
-handed f n (refused number) = Entry.Refused number
-handed f n (messages ms) = elim (leb 1 n && leb n (length ms)) [
-  | true ↦ Entry.At (entry f (n - 1)) (entry f n - entry f (n - 1))
-  | false ↦ Entry.Refused 22
+abbrev pub handed : List ℕ → ℕ → Trace → Result Span Refusal
+handed f n (Err r) = Err r
+handed f n (Ok ms) = elim (leb 1 n && leb n (length ms)) [
+  | true ↦ Ok (record { start = entry f (n - 1); len = entry f n - entry f (n - 1) })
+  | false ↦ Err Refusal.NoSuchMessage
 ]
 
-unfoldable pub message_of : List ℕ → ℕ → Entry
+unfoldable pub message_of : List ℕ → ℕ → Result Span Refusal
 message_of f n = handed f n (trace_of f)
 
 -- the bytes at that part; none where it is refused
-abbrev pub part_of : Entry → List ℕ → List ℕ
-part_of (Entry.Refused number) f = []
-part_of (Entry.At start len) f = part f (record { start = start; len = len })
+abbrev pub part_of : Result Span Refusal → List ℕ → List ℕ
+part_of (Err r) f = []
+part_of (Ok p) f = part f p
 
 -- Writing. An unfinished trace is the first `used` bytes of an output, said to be `count` messages.
 
@@ -170,30 +161,30 @@ is_one lent x = eqb (refusal x) 0 && eqb (frame_length x) lent
 
 -- 13 what recording can't have left there, then 14 what is not exactly one frame, then 7 what makes the finished file
 -- outgrow the output or 65,536
-unfoldable pub recorded : List ℕ → ℕ → ℕ → List ℕ → Recorded
+unfoldable pub recorded : List ℕ → ℕ → ℕ → List ℕ → Result Recorded Refusal
 recorded out used count m = elim (can_be_left out used count) [
-  | false ↦ Recorded.Refused 13
+  | false ↦ Err Refusal.NoTrace
   | true ↦ elim (is_one (length m) (framing m)) [
-    | false ↦ Recorded.Refused 14
+    | false ↦ Err Refusal.Misframed
     | true ↦ elim (fits (length out) (used + length m) (count + 1)) [
-      | false ↦ Recorded.Refused 7
-      | true ↦ Recorded.Left (used + length m) (count + 1)
+      | false ↦ Err Refusal.NoRoom
+      | true ↦ Ok (record { used = used + length m; count = count + 1 })
     ]
   ]
 ]
 
 -- the output then: the message behind what was used; a refusal changes nothing
-abbrev pub with_message : List ℕ → ℕ → List ℕ → Recorded → List ℕ
-with_message out used m (Recorded.Refused number) = out
-with_message out used m (Recorded.Left u c) = put out used m
+abbrev pub with_message : List ℕ → ℕ → List ℕ → Result Recorded Refusal → List ℕ
+with_message out used m (Err r) = out
+with_message out used m (Ok t) = put out used m
 
 -- 13 as above, then 7; else how long the file is
-unfoldable pub finished : List ℕ → ℕ → ℕ → Finished
+unfoldable pub finished : List ℕ → ℕ → ℕ → Result ℕ Refusal
 finished out used count = elim (can_be_left out used count) [
-  | false ↦ Finished.Refused 13
+  | false ↦ Err Refusal.NoTrace
   | true ↦ elim (fits (length out) used count) [
-    | false ↦ Finished.Refused 7
-    | true ↦ Finished.File (used + 4 * count + 12)
+    | false ↦ Err Refusal.NoRoom
+    | true ↦ Ok (used + 4 * count + 12)
   ]
 ]
 
@@ -203,13 +194,13 @@ messages_in none = []
 messages_in (some ms) = ms
 
 -- the output then: what ends the file behind what was used; a refusal changes nothing
-abbrev pub with_ending : List ℕ → ℕ → Finished → List ℕ
-with_ending out used (Finished.Refused number) = out
-with_ending out used (Finished.File n) = put out used (ending (messages_in (frames_in (take used out))))
+abbrev pub with_ending : List ℕ → ℕ → Result ℕ Refusal → List ℕ
+with_ending out used (Err r) = out
+with_ending out used (Ok n) = put out used (ending (messages_in (frames_in (take used out))))
 
 -- recording these messages, one after the other, leaves `used` bytes and `count` messages in `out`
 pub data Records : List (List ℕ) → List ℕ → ℕ → ℕ → Type 0 where
   nothing : (out : List ℕ) → Records [] out 0 0
   onward : (ms : List (List ℕ)) (out : List ℕ) (used count : ℕ) → Records ms out used count
-      → (m after : List ℕ) (u c : ℕ) → recorded out used count m ≡ Recorded.Left u c → after ≡ put out used m
-      → Records (ms ++ m ∷ []) after u c
+      → (m after : List ℕ) (u c : ℕ) → recorded out used count m ≡ Ok (record { used = u; count = c })
+      → after ≡ put out used m → Records (ms ++ m ∷ []) after u c

@@ -1,26 +1,38 @@
 // The trace file: document 02, K7. What it is; `tracereader` and `tracewriter` have the code.
 #![tactic(auto)]
 
+ghost use Rattle.std.specs.Prelude.{◌≡◌};
+ghost use Rattle.traces.specs.Refusals.{number_of};
+
 // A file is no longer than so many bytes.
 pub const LONGEST: usize = 65536;
 
-// Message n of a file: the number of a refusal, or where it begins and how long it is.
-#[derive(Clone, Copy)]
-pub enum Entry {
-    Refused(u32),
-    At(usize, usize),
+// Why reading or writing is refused.
+#[derive(Clone, Copy, PartialEq, Eq, Debug)]
+pub enum Refusal {
+    NoRoom, // the finished file outgrows the output or 65,536 bytes
+    NoTrace, // no trace file, or nothing that recording can have left
+    Misframed, // a frame or its entry is wrong, or what comes is not exactly one frame
+    NoSuchMessage, // there is no message n
 }
 
-// What recording leaves: the number of a refusal, or how many bytes are used and how many messages they are.
-#[derive(Clone, Copy)]
-pub enum Recorded {
-    Refused(u32),
-    Left(usize, usize),
+impl Refusal {
+    // The paper's number.
+    pub fn number(self) -> u32
+        ensures { result ≡ number_of self }
+    {
+        match self {
+            Refusal::NoRoom => 7,
+            Refusal::NoTrace => 13,
+            Refusal::Misframed => 14,
+            Refusal::NoSuchMessage => 22,
+        }
+    }
 }
 
-// What finishing leaves: the number of a refusal, or how long the file is.
-#[derive(Clone, Copy)]
-pub enum Finished {
-    Refused(u32),
-    File(usize),
+// What recording leaves: how many bytes are used, and how many messages they are.
+#[derive(Clone, Copy, PartialEq, Eq, Debug)]
+pub struct Recorded {
+    pub used: usize,
+    pub count: usize,
 }

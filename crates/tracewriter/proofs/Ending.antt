@@ -1,42 +1,21 @@
 -- What ends a file, written behind an unfinished trace: one law for each way that the code can go. Assumes nothing.
-use Prim.Native.Nat.{ℕ, suc, ◌+◌, ◌*◌, ◌-◌, ◌≤◌, ◌<◌}
-use mathlib.Core.Path.{◌≡◌, refl, sym, ap, subst, ◌∙◌}
-use mathlib.Core.Bool.{true, false≢true}
 use mathlib.Core.Option.{Option, none, some}
-use mathlib.Core.List.{List, [], ◌∷◌, ◌++◌, append_assoc, append-nil}
-use native.Mathlib.Omega.{arith}
-use lib.ListN.{length, take, drop, set, length-drop, length-set, drop_of_length-le}
-use lib.Seq.{length-take-le, drop-drop, take_at}
+use lib.Seq.{take_at}
+use Rattle.std.proofs.Common.{ℕ, suc, ◌+◌, ◌*◌, ◌-◌, ◌≤◌, ◌≡◌, ◌⊎◌, refl, sym, ap, subst, ◌∙◌, inl, inr, arith, Ok, Err}
+use Rattle.std.proofs.Common.{true, List, [], ◌∷◌, ◌++◌, append_assoc, append-nil, length, take, drop, length-drop}
+use Rattle.std.proofs.Math.Seq.{drop-drop, length-take-le}
+use mathlib.Core.Bool.{false≢true}
 use borrow.Author.Tests.{eqb-true}
 use Rattle.writers.specs.Buffer.{put, Wrote}
-use Rattle.writers.proofs.Put.{◌▸◌, wrote_none, wrote_one, kept}
-use Rattle.framing.specs.Framing.{framing}
-use Rattle.traces.specs.Traces.{four, index, ahead, frames_on, frames_in, so_many, messages_in}
-use Rattle.traces.specs.Steps.{frame_size}
+use Rattle.writers.proofs.Put.{◌▸◌, wrote_none, kept}
+use Rattle.framing.specs.Framing.{Framing, framing}
+use Rattle.std.proofs.lemmas.Slice.{between_is}
+use Rattle.framing.specs.declared.Framed.{Framed}
+use Rattle.framing.specs.declared.NoFrame.{NoFrame}
+use Rattle.traces.specs.Traces.{four, index, ahead, frames_in, so_many, messages_in}
 use Rattle.traces.proofs.Numbers.{four_length}
 use Rattle.traces.proofs.Walking.{frames_empty}
-use Rattle.traces.proofs.Fronts.{drop_take, opened_at, FrontFrame, front_frame, no_frame}
-
--- what four stores wrote
-pub wrote_four : (out : List ℕ) (at a b d e : ℕ) → at + 4 ≤ length out
-    → Wrote out at (a ∷ b ∷ d ∷ e ∷ []) (set (set (set (set out at a) (at + 1) b) (at + 2) d) (at + 3) e) (at + 4)
-wrote_four out at a b d e h =
-    let one = wrote_one out at a (omega arith) in
-    let two = wrote_one (set out at a) (at + 1) b (simp length-set (omega arith)) in
-    let three = wrote_one (set (set out at a) (at + 1) b) (at + 1 + 1) d (simp length-set (omega arith)) in
-    let last = wrote_one (set (set (set out at a) (at + 1) b) (at + 1 + 1) d) (at + 1 + 1 + 1) e
-    (simp length-set (omega arith)) in
-    let p : at + 1 + 1 ≡ at + 2 = omega arith in
-    let q : at + 2 + 1 ≡ at + 3 = omega arith in
-    let r : at + 3 + 1 ≡ at + 4 = omega arith in
-    rw (p, q, r) at (one ▸ two ▸ three ▸ last)
-
--- the trailer, in the order of its parts
-pub wrote_trailer : (out : List ℕ) (at begin count : ℕ) (letters after : List ℕ) (n : ℕ)
-    → Wrote out at (four begin ++ four count ++ letters) after n
-    → Wrote out at (four begin ++ (four count ++ letters)) after n
-wrote_trailer out at begin count letters after n w =
-    subst (λ l. Wrote out at l after n) (append_assoc (four begin) (four count) letters) w
+use Rattle.traces.proofs.Fronts.{FrontFrame, front_frame, no_front}
 
 -- the first bytes stay
 pub front_stays : {out after : List ℕ} {at n : ℕ} {bs : List ℕ} → Wrote out at bs after n → take at after ≡ take at out
@@ -84,39 +63,40 @@ module _ {before : List ℕ} {used i at : ℕ} {out : List ℕ} (x : Indexing be
   none_some : {C : Type 0} {l : List (List ℕ)} → none ≡ some l → C
   none_some e = let d : ◌≡◌ {A = ℕ} 0 1 = cc in absurd (omega arith)
 
-  pub index_end : used ≤ i → Wrote before used (index 0 (messages_in (frames_in (take used before)))) out at
-  index_end h =
-      let e : some [] ≡ some x.rest =
-      sym frames_empty
-      ∙ ap frames_in (sym (drop_of_length-le (take used before) {i = i} (omega (arith, front))))
-      ∙ x.walked in
-      let r : [] ≡ x.rest = cc in
-      let d : index 0 (messages_in (frames_in (take used before))) ≡ x.done =
-      x.entries ∙ ap (λ l. x.done ++ index i l) (sym r) ∙ append-nil x.done in
-      subst (λ l. Wrote before used l out at) (sym d) x.wrote
+  abbrev pub l : List ℕ
+  l = drop i (take used before)
 
-  module _ (more : i < used) (n : ℕ) (is : n ≡ frame_size (take (used - i) (drop i out))) where
-    abbrev l : List ℕ
-    l = drop i (take used before)
+  -- the code looks at what it has not written over
+  pub looks : {r : Framing} → r ≡ framing (take (used - i) (drop i out)) → framing l ≡ r
+  looks e = ap framing (ap (drop i) (sym (front_stays x.wrote)) ∙ sym (between_is out i used)) ∙ sym e
 
-    -- the code looks at what it has not written over
-    looks : take (used - i) (drop i out) ≡ l
-    looks = drop_take used i out ∙ ap (drop i) (front_stays x.wrote)
+  pub index_end : (why : NoFrame) → framing l ≡ Err why
+      → Wrote before used (index 0 (messages_in (frames_in (take used before)))) out at
+  index_end why e = go (no_front l why e)
+    where
+      go : (l ≡ []) ⊎ (frames_in l ≡ none)
+          → Wrote before used (index 0 (messages_in (frames_in (take used before)))) out at
+      go (inl z) =
+          let e : some [] ≡ some x.rest = sym frames_empty ∙ ap frames_in (sym z) ∙ x.walked in
+          let r : [] ≡ x.rest = cc in
+          let d : index 0 (messages_in (frames_in (take used before))) ≡ x.done =
+          x.entries ∙ ap (λ l. x.done ++ index i l) (sym r) ∙ append-nil x.done in
+          subst (λ l. Wrote before used l out at) (sym d) x.wrote
+      go (inr z) = none_some (sym z ∙ x.walked)
 
-    is_l : n ≡ frame_size l
-    is_l = is ∙ ap frame_size looks
-
-    opened : frames_on l (framing l) frames_in ≡ some x.rest
-    opened = sym (opened_at (take used before) i (omega (arith, front))) ∙ x.walked
+  module _ (f : Framed) (is : framing l ≡ Ok f) where
+    abbrev n : ℕ
+    n = f.length
 
     framed : FrontFrame l n
-    framed = front_frame l n is_l (λ z. none_some (sym (no_frame l (sym is_l ∙ z)) ∙ opened))
+    framed = front_frame l f is
 
     pub index_within : (1 ≤ n) × (i + n ≤ used)
-    index_within = (framed.some, omega (arith, framed.there, length-drop i (take used before), front))
+    index_within =
+        (framed.some_bytes, omega (arith, framed.some_bytes, framed.there, length-drop i (take used before), front))
 
     pub index_room : at + 4 ≤ length out
-    index_room = go (frames_in (drop n l)) (sym framed.opened ∙ opened)
+    index_room = go (frames_in (drop n l)) (sym framed.opened ∙ x.walked)
       where
         go : (r : Option (List (List ℕ))) → ahead (take n l) r ≡ some x.rest → at + 4 ≤ length out
         go none e = none_some e
@@ -127,7 +107,7 @@ module _ {before : List ℕ} {used i at : ℕ} {out : List ℕ} (x : Indexing be
 
     pub index_on : (after : List ℕ) (then : ℕ) → Wrote out at (four i) after then
         → Indexing before used (i + n) then after
-    index_on after then w = go (frames_in (drop n l)) refl (sym framed.opened ∙ opened)
+    index_on after then w = go (frames_in (drop n l)) refl (sym framed.opened ∙ x.walked)
       where
         go : (r : Option (List (List ℕ))) → frames_in (drop n l) ≡ r → ahead (take n l) r ≡ some x.rest
             → Indexing before used (i + n) then after

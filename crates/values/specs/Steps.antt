@@ -1,13 +1,12 @@
 -- What the steps of asking for a value find, in the types of the code.
-use Rattle.std.specs.Prelude.{ℕ, Bool, true, false, not, eqb}
+use Rattle.std.specs.Prelude.{ℕ, Bool, true, false, not, eqb, Option, Some, None}
 use Rattle.std.specs.Int.Bits.{bit_and}
 use Rattle.message.specs.declared.Span.{Span}
-use Rattle.values.specs.declared.Given.{Given}
 
 -- one of the names of a set came
 abbrev pub meets : ℕ → ℕ → Bool
 meets mask set = not (eqb (bit_and mask set) 0)
 
 -- the value at p, where the name with that bit came
-abbrev pub given_by : ℕ → ℕ → Span → Given
-given_by mask b p = elim (meets mask b) [ true ↦ Given.At p | false ↦ Given.Nothing ]
+abbrev pub given_by : ℕ → ℕ → Span → Option Span
+given_by mask b p = elim (meets mask b) [ true ↦ Some p | false ↦ None ]

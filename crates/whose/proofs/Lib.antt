@@ -2,4 +2,3 @@ pub mod Lines
 pub mod Ways
 pub mod Looking
 pub mod Theorems
-mod Told

@@ -1,4 +1,4 @@
--- What the steps of the code find, one law for each way.
+-- Whether a line has ended, one law for each way that a turn of the loop can go; and what a line is read as.
 -- Assumes nothing.
 use Prim.Native.Nat.{ℕ, ◌+◌, ◌<◌, ◌≤◌, min}
 use mathlib.Core.Path.{◌≡◌, refl, sym, ap, ◌∙◌}
@@ -7,31 +7,20 @@ use mathlib.Core.Option.{Option, none, some}
 use mathlib.Core.List.{List, [], ◌∷◌}
 use native.Mathlib.Omega.{arith}
 use lib.Dec.{ltb}
-use lib.ListN.{length, get_or, take, drop, length-take, drop_of_length-le}
-use lib.Seq.{take_all}
-use borrow.Author.Tests.{ltb-true, ltb-false, lt-ltb, le-ltb}
-use Rattle.readers.specs.Readers.{Read, short, wrong, got}
+use borrow.Author.Tests.{le-ltb}
+use Rattle.std.proofs.lemmas.List.{take_min}
+use lib.ListN.{length, get_or, take, drop, drop_of_length-le}
 use Rattle.readers.specs.Words.{is_crlf, behind, line, words}
 use Rattle.readers.proofs.Cuts.{line_end, line_on}
 use Rattle.readers.proofs.Positions.{here}
-use Rattle.framing.specs.Framing.{opening}
-use Rattle.framing.specs.Steps.{front_of}
-use Rattle.framing.specs.declared.Opening.{Opening}
-use Rattle.framing.specs.declared.Front.{Front}
 use Rattle.message.specs.Message.{Start}
-use Rattle.message.specs.StartLines as M
-use Rattle.message.specs.StartLines.{Started, started, going_on, line_start, start_line}
+use Rattle.message.specs.StartLines.{Started, started, going_on, start_of, line_start, start_line}
 use Rattle.message.specs.declared.Span.{Span}
-use Rattle.startline.specs.StartLine.{start_of, started_of}
-use Rattle.startline.specs.declared.Start as S
-use Rattle.startline.specs.declared.StartLine as L
-use Rattle.whose.specs.Whose.{id_in, of_start, of_line, window, of_opening, whose}
+use Rattle.std.specs.Prelude.{Ok, Err}
+use Rattle.whose.specs.Whose.{id_in, of_start, of_line, window}
 use Rattle.whose.specs.Steps.{has_line, opened}
-use Rattle.whose.specs.declared.Whose.{Whose}
-use Rattle.whose.specs.declared.Whose.TheVariants.{More, NoMessage, TooShort, Malformed, Id}
-use Rattle.whose.proofs.Ways.{no_more, want_more}
-
--- ---- whether a line has ended
+use Rattle.whose.specs.declared.NoId.TheVariants.{Malformed}
+use Rattle.whose.proofs.Ways.{no_more}
 
 abbrev is_there : Option (List ℕ) → Bool
 is_there none = false
@@ -58,102 +47,47 @@ module _ (s : List ℕ) (i : ℕ) where
   pub line_nowhere : length s ≤ i → has_line (drop i s) ≡ false
   line_nowhere h = rw (drop_of_length-le s h)
 
--- ---- behind an opening
+-- ---- what the line behind an opening is read as decides the answer
 
--- what a line is read as decides the answer
 module _ (k stated lent : ℕ) where
-  start_told : (x : Option (Start Span)) (n : ℕ) (st : Start Span) (next : ℕ) → going_on x n ≡ started st next
-      → of_start x ≡ Id (id_in st)
+  start_told : (x : Option (Start Span)) (n : ℕ) (st : Start Span) (next : ℕ) → started st next ≡ going_on x n
+      → Ok (id_in st) ≡ of_start x
   start_told none n st next e = let d : ◌≡◌ {A = ℕ} 0 1 = cc in absurd (omega arith)
-  start_told (some y) n st next e = let q : y ≡ st = cc in ap (λ (z : Start Span). Id (id_in z)) q
+  start_told (some y) n st next e = let q : st ≡ y = cc in ap (λ (z : Start Span). Ok (id_in z)) q
 
-  line_told : (r : Option (List ℕ)) (st : Start Span) (next : ℕ) → line_start k r ≡ started st next
-      → of_line k stated lent r ≡ Id (id_in st)
+  line_told : (r : Option (List ℕ)) (st : Start Span) (next : ℕ) → started st next ≡ line_start k r
+      → Ok (id_in st) ≡ of_line k stated lent r
   line_told none st next e = let d : ◌≡◌ {A = ℕ} 0 1 = cc in absurd (omega arith)
-  line_told (some l) st next e = start_told (M.start_of k (words 32 l)) (k + length l + 2) st next e
+  line_told (some l) st next e = start_told (start_of k (words 32 l)) (k + length l + 2) st next e
 
-  start_wrong : (x : Option (Start Span)) (n : ℕ) → going_on x n ≡ Started.malformed → of_start x ≡ Malformed
+  start_wrong : (x : Option (Start Span)) (n : ℕ) → Started.malformed ≡ going_on x n → Err Malformed ≡ of_start x
   start_wrong none n e = refl
   start_wrong (some y) n e = let d : ◌≡◌ {A = ℕ} 0 1 = cc in absurd (omega arith)
 
-  line_wrong : (r : Option (List ℕ)) → line_start k r ≡ Started.malformed
-      → (is_there r ≡ false → ltb lent 128 && ltb lent stated ≡ false) → of_line k stated lent r ≡ Malformed
-  line_wrong none e h = no_more k stated lent (h refl)
-  line_wrong (some l) e h = start_wrong (M.start_of k (words 32 l)) (k + length l + 2) e
+  line_wrong : (r : Option (List ℕ)) → Started.malformed ≡ line_start k r
+      → (is_there r ≡ false → ltb lent 128 && ltb lent stated ≡ false) → Err Malformed ≡ of_line k stated lent r
+  line_wrong none e h = sym (no_more k stated lent (h refl))
+  line_wrong (some l) e h = start_wrong (start_of k (words 32 l)) (k + length l + 2) e
 
-  line_waits : (r : Option (List ℕ)) → is_there r ≡ false → ltb lent 128 && ltb lent stated ≡ true
-      → of_line k stated lent r ≡ More
-  line_waits none e h = want_more k stated lent h
-  line_waits (some l) e h = absurd (false≢true (sym e))
+-- n bytes are looked at
+module _ (k stated : ℕ) (s : List ℕ) (n : ℕ) (most : n ≡ min (length s) (min 128 stated)) (big : k ≤ stated) where
+  looked_at : take n s ≡ window stated s
+  looked_at =
+      ap (λ m. take m s) {x = n} {y = min (min 128 stated) (length s)} (omega arith) ∙ take_min (min 128 stated) s
 
-module _ (k stated : ℕ) (s : List ℕ) where
-  pub opened_little : stated < k → TooShort ≡ opened k stated s
-  opened_little h = rw (lt-ltb stated k h, opened)
+  opened_on : of_line k stated (length s) (line (drop k (take n s))) ≡ opened k stated s
+  opened_on =
+      ap (λ u. of_line k stated (length s) (line (drop k u))) looked_at ∙ sym (rw (le-ltb stated k big, opened))
 
-  opened_on : k ≤ stated → opened k stated s ≡ of_line k stated (length s) (line (drop k (window stated s)))
-  opened_on h = rw (le-ltb stated k h, opened)
+  pub opened_told : (st : Start Span) (next id : ℕ) → id ≡ id_in st → started st next ≡ start_line k (take n s)
+      → Ok id ≡ opened k stated s
+  unfolding start_line
+  opened_told st next id i e =
+      ap Ok i ∙ line_told k stated (length s) (line (drop k (take n s))) st next e ∙ opened_on
 
-  -- the n bytes that are looked at
-  module _ (n : ℕ) (most : n ≡ min (length s) (min 128 stated)) where
-    pub looked_length : n ≡ length (take n s)
-    looked_length = omega (arith, length-take n s)
-
-    looked_window : take n s ≡ window stated s
-    looked_window = go (ltb (length s) (min 128 stated)) refl
-      where
-        go : (b : Bool) → ltb (length s) (min 128 stated) ≡ b → take n s ≡ take (min 128 stated) s
-        go true b =
-            let l = ltb-true (length s) (min 128 stated) b in
-            take_all n s (omega arith) ∙ sym (take_all (min 128 stated) s (omega arith))
-        go false b =
-            let l = ltb-false (length s) (min 128 stated) b in
-            ap (λ m. take m s) {x = n} {y = min 128 stated} (omega arith)
-
-    module _ (big : k ≤ stated) (found : L.StartLine) (p : started_of found ≡ start_line k (take n s)) where
-      abbrev seen : Option (List ℕ)
-      seen = line (drop k (take n s))
-
-      by_seen : (w : Whose) → of_line k stated (length s) seen ≡ w → w ≡ opened k stated s
-      by_seen w e = sym (opened_on big ∙ ap (λ u. of_line k stated (length s) (line (drop k u))) (sym looked_window) ∙ e)
-
-      started_seen : (x : L.StartLine) → found ≡ x → line_start k seen ≡ started_of x
-      unfolding start_line
-      started_seen x q = sym p ∙ ap started_of q
-
-      pub opened_line : (start : S.Start) (next id : ℕ) → found ≡ L.StartLine.Line start next
-          → id ≡ id_in (start_of start) → Id id ≡ opened k stated s
-      opened_line start next id q e =
-          let p = started_seen (L.StartLine.Line start next) q in
-          by_seen (Id id) (line_told k stated (length s) seen (start_of start) next p ∙ ap Id (sym e))
-
-      module _ (q : found ≡ L.StartLine.Malformed) where
-        -- it cannot come any more, or is there
-        pub opened_wrong : ltb (length s) 128 && ltb (length s) stated ≡ false → Malformed ≡ opened k stated s
-        opened_wrong h =
-            let p = started_seen L.StartLine.Malformed q in
-            by_seen Malformed (line_wrong k stated (length s) seen p (λ _. h))
-
-        pub opened_ended : has_line (drop k (take n s)) ≡ true → Malformed ≡ opened k stated s
-        opened_ended h =
-            let p = started_seen L.StartLine.Malformed q in
-            by_seen Malformed (line_wrong k stated (length s) seen p (λ e. absurd (false≢true (sym e ∙ h))))
-
-        pub opened_waits : ltb (length s) 128 && ltb (length s) stated ≡ true → has_line (drop k (take n s)) ≡ false
-            → More ≡ opened k stated s
-        opened_waits h e = by_seen More (line_waits k stated (length s) seen e h)
-
--- ---- from the opening on
-
-abbrev pub whose_by : Front → List ℕ → Whose
-whose_by Front.Short s = More
-whose_by Front.Wrong s = NoMessage
-whose_by (Front.Got a b stated k) s = opened k stated s
-
-by_front : (r : Read Opening) (s : List ℕ) → whose_by (front_of r) s ≡ of_opening s r
-by_front short s = refl
-by_front wrong s = refl
-by_front (got o k) s = refl
-
-pub by_opening : (s : List ℕ) (r f : Front) → r ≡ front_of (opening s) → r ≡ f → whose_by f s ≡ whose s
-unfolding whose
-by_opening s r f e g = ap (λ (x : Front). whose_by x s) (sym g ∙ e) ∙ by_front (opening s) s
+  -- the line cannot come any more, or is there
+  pub opened_wrong : Started.malformed ≡ start_line k (take n s)
+      → (has_line (drop k (take n s)) ≡ false → ltb (length s) 128 && ltb (length s) stated ≡ false)
+      → Err Malformed ≡ opened k stated s
+  unfolding start_line
+  opened_wrong e h = line_wrong k stated (length s) (line (drop k (take n s))) e h ∙ opened_on

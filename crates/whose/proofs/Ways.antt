@@ -11,17 +11,18 @@ use Rattle.readers.specs.Readers.{got}
 use Rattle.readers.specs.Words.{line}
 use Rattle.framing.specs.declared.Opening.{Opening}
 use Rattle.whose.specs.Whose.{of_line, window, of_opening}
-use Rattle.whose.specs.declared.Whose.TheVariants.{More, TooShort, Malformed}
+use Rattle.std.specs.Prelude.{Err}
+use Rattle.whose.specs.declared.NoId.TheVariants.{More, TooShort, Malformed}
 
 module _ (k stated lent : ℕ) where
-  pub no_more : ltb lent 128 && ltb lent stated ≡ false → of_line k stated lent none ≡ Malformed
+  pub no_more : ltb lent 128 && ltb lent stated ≡ false → of_line k stated lent none ≡ Err Malformed
   no_more e = rw (e, of_line)
 
-  pub want_more : ltb lent 128 && ltb lent stated ≡ true → of_line k stated lent none ≡ More
+  pub want_more : ltb lent 128 && ltb lent stated ≡ true → of_line k stated lent none ≡ Err More
   want_more e = rw (e, of_line)
 
 module _ (s : List ℕ) (o : Opening) (k : ℕ) where
-  pub too_short : ltb o.stated k ≡ true → of_opening s (got o k) ≡ TooShort
+  pub too_short : ltb o.stated k ≡ true → of_opening s (got o k) ≡ Err TooShort
   too_short e = rw (e, of_opening)
 
   pub by_line_lem : ltb o.stated k ≡ false

@@ -1,7 +1,7 @@
 -- Decimal digits: what they are, which number they write, how many there are. `digits` is used through `digits_small`, `digits_big` and
 -- `dec_ind` alone, so its fuel stays here.
-use Prim.Native.Nat.{ℕ, zero, suc, ◌+◌, ◌*◌, ◌/◌, ◌%◌, ◌^◌, ◌≤◌, ◌<◌}
-use native.Mathlib.Nat.{le_refl, not-suc-le-zero, pow-suc}
+use Prim.Native.Nat.{ℕ, zero, suc, ◌+◌, ◌*◌, ◌/◌, ◌%◌, ◌^◌, ◌≤◌, ◌<◌, max}
+use native.Mathlib.Nat.{le_refl, not-suc-le-zero, pow-suc, pow-le-pow_right}
 use native.Mathlib.Numerals.{add-one}
 use native.Mathlib.Omega.{arith}
 use native.Mathlib.Decide.{dec_lt}
@@ -124,27 +124,20 @@ width_mono m n h = dec_ind (λ m. (n : ℕ) → m ≤ n → width m ≤ width n)
 pub width_64 : (n : ℕ) → n < 2 ^ 64 → width n ≤ 20
 width_64 n h = width_below n 19 (omega arith)
 
--- counted by fours
-pub width_fours : (n : ℕ) → 10000 ≤ n → width n ≡ width (n / 10000) + 4
-width_fours n h =
-    let e : n / 10 / 10 / 10 / 10 ≡ n / 10000 = omega arith in
-    let w = ap width e in
-    omega (
-      arith,
-      width_big n (omega arith),
-      width_big (n / 10) (omega arith),
-      width_big (n / 10 / 10) (omega arith),
-      width_big (n / 10 / 10 / 10) (omega arith),
-    )
+-- counted by the greatest power of ten that is not above n, where 0 counts as 1
+pub width_powers : (n k : ℕ) → 10 ^ k ≤ max n 1 → max n 1 < 10 * 10 ^ k → width n ≡ k + 1
+width_powers n k low high = zero_as_one (dec_lt n 1) ∙ counted (max n 1) low high
+  where
+    zero_as_one : Dec (n < 1) → width n ≡ width (max n 1)
+    zero_as_one (yes h) = omega (arith, width_small n (omega arith), width_small (max n 1) (omega arith))
+    zero_as_one (no h) = let e : n ≡ max n 1 = omega arith in ap width e
 
-pub width_two : (n : ℕ) → 10 ≤ n → n < 100 → width n ≡ 2
-width_two n h k = omega (arith, width_big n h, width_small (n / 10) (omega arith))
-
-pub width_three : (n : ℕ) → 100 ≤ n → n < 1000 → width n ≡ 3
-width_three n h k = omega (arith, width_big n (omega arith), width_two (n / 10) (omega arith) (omega arith))
-
-pub width_four : (n : ℕ) → 1000 ≤ n → n < 10000 → width n ≡ 4
-width_four n h k = omega (arith, width_big n (omega arith), width_three (n / 10) (omega arith) (omega arith))
+    counted : (m : ℕ) → 10 ^ k ≤ m → m < 10 * 10 ^ k → width m ≡ k + 1
+    counted m low high = step (dec_lt k (width m))
+      where
+        step : Dec (k < width m) → width m ≡ k + 1
+        step (yes h) = omega (arith, width_below m k (rw pow-suc (omega arith)))
+        step (no h) = absurd (omega (arith, width_above m, pow-le-pow_right {n = 10} (omega arith) {i = width m} {j = k} (omega arith)))
 
 -- an id in range, written, is a request-id
 pub id_written : (n : ℕ) → n < 4294967296 → is_request_id (digits n) ≡ true

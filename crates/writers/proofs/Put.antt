@@ -5,7 +5,7 @@ use native.Mathlib.Nat.{add-zero, add_assoc, zero-add}
 use native.Mathlib.Numerals.{add-one}
 use native.Mathlib.Omega.{arith}
 use mathlib.Core.List.{List, [], ◌∷◌, ◌++◌, append_assoc, append-nil}
-use lib.ListN.{length, take, drop, set, length-append, length-drop, length-set, take-append-drop}
+use lib.ListN.{length, take, drop, set, length-append, length-drop, take-append-drop}
 use lib.Seq.{length-take-le, set_split, take_at, drop-append-add, drop-drop, take-set-le, drop_at}
 use Rattle.writers.specs.Buffer.{put, Wrote}
 
@@ -88,14 +88,3 @@ wrote_one out at b h = record { bytes = put_one out at b h; moved = refl; room =
 -- nothing written
 pub wrote_none : (out : List ℕ) (at : ℕ) → at ≤ length out → Wrote out at [] out at
 wrote_none out at h = record { bytes = sym (put_nil out at); moved = sym (add-zero at); room = h }
-
--- what three stores wrote
-pub wrote_three : (out : List ℕ) (at a b d : ℕ) → at + 3 ≤ length out
-    → Wrote out at (a ∷ b ∷ d ∷ []) (set (set (set out at a) (at + 1) b) (at + 2) d) (at + 3)
-wrote_three out at a b d h =
-    let one = wrote_one out at a (omega arith) in
-    let two = wrote_one (set out at a) (at + 1) b (simp length-set (omega arith)) in
-    let three = wrote_one (set (set out at a) (at + 1) b) (at + 1 + 1) d (simp length-set (omega arith)) in
-    let e : at + 1 + 1 ≡ at + 2 = omega arith in
-    let f : at + 2 + 1 ≡ at + 3 = omega arith in
-    rw (e, f) at (one ▸ two ▸ three)

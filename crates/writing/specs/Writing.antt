@@ -1,5 +1,5 @@
 -- What a call that writes one message hands back: document 01, refusal 7.
-use Rattle.std.specs.Prelude.{ℕ, zero, suc, true, false, List, ◌++◌, ltb, length, drop, set}
+use Rattle.std.specs.Prelude.{ℕ, zero, suc, true, false, List, ◌++◌, ltb, length, drop, set, Result}
 use Rattle.std.proofs.Math.Option.{Option, none, some}
 use Rattle.message.specs.declared.RequestState.{RequestState}
 use Rattle.message.specs.declared.RequestState.TheVariants.{Pending, InProgress, Complete}
@@ -7,7 +7,7 @@ use Rattle.answer.specs.Written as W
 use Rattle.answer.specs.Answers.{response, complete}
 use Rattle.answer.specs.declared.Kind.{Kind}
 use Rattle.output.specs.Delivery.{number_of, written_of}
-use Rattle.output.specs.declared.Written.{Written}
+use Rattle.output.specs.declared.TooLong.{TooLong}
 
 -- a call's number, the place lent for the count written, and the lent output, as it leaves them
 pub record WriteCall : Type 0 where
@@ -27,7 +27,7 @@ pub record Told : Type 0 where
   pub number : ℕ
   pub written : List ℕ
 
-abbrev pub told : Written → List ℕ → Told
+abbrev pub told : Result ℕ TooLong → List ℕ → Told
 told w place = record { number = number_of w; written = set place 0 (written_of w) }
 
 -- the request state with a number, as include/klarvesimo.h numbers them

@@ -2,22 +2,33 @@
 // product's own face has calls on a channel instead.
 #![tactic(auto)]
 
-ghost use Rattle.std.specs.Prelude.{◌≡◌};
+ghost use Rattle.std.specs.Prelude.{◌≡◌, MatchOption};
+ghost use Rattle.std.proofs.Math.Option.{none, some};
 ghost use Rattle.writing.specs.Writing.{told, state_at, wrote_response, wrote_event};
 
 // The number and the count of a write.
-fn tell(w: output::Written, written: &mut [u64; 1]) -> u32
+// Numbers: this face is C's, and its contract names 7 and 9.
+fn tell(w: Result<usize, output::TooLong>, written: &mut [u64; 1]) -> u32
     ensures { record { number = result; written = written.new } ≡ told w written.old }
 {
-    match w {
-        output::Written::Count(n) => {
-            written[0] = n as u64;
-            0
-        }
-        output::Written::TooLong => {
-            written[0] = 0;
-            7
-        }
+    let (number, count) = match w {
+        Ok(n) => (0, n as u64),
+        Err(output::TooLong) => (7, 0),
+    };
+    written[0] = count;
+    number
+}
+
+// The request state with that number.
+// Not a TryFrom: the numbers are this face's alone.
+fn state_of(number: u32) -> Option<message::RequestState>
+    ensures { MatchOption result (state_at number ≡ none) (λ s. state_at number ≡ some s) }
+{
+    match number {
+        1 => Some(message::RequestState::Pending),
+        2 => Some(message::RequestState::InProgress),
+        3 => Some(message::RequestState::Complete),
+        _ => None,
     }
 }
 
@@ -35,28 +46,16 @@ pub fn klarvesimo_write_response(
         ≡ wrote_response name.now id status (state_at state) ids.now written.old
         out.old }
 {
-    let s = answer::Status { code: status };
-    match state {
-        1 => {
-            let a = s.pending(id);
-            let w = output::respond(out, name, a, ids);
-            tell(w, written)
-        }
-        2 => {
-            let a = s.in_progress(id);
-            let w = output::respond(out, name, a, ids);
-            tell(w, written)
-        }
-        3 => {
-            let a = s.complete(id);
-            let w = output::respond(out, name, a, ids);
-            tell(w, written)
-        }
-        _ => {
-            written[0] = 0;
-            9
-        }
-    }
+    let Some(state) = state_of(state) else {
+        written[0] = 0;
+        return 9;
+    };
+    let a = answer::Answer {
+        id,
+        status: answer::Status { code: status },
+        state,
+    };
+    tell(output::respond(out, name, a, ids), written)
 }
 
 // The event that ends a SPEAK; 9 where there is no such cause.
@@ -70,10 +69,10 @@ pub fn klarvesimo_write_event(
     ensures { record { number = result; written = written.new; out = out.new }
         ≡ wrote_event name.now id cause written.old out.old }
 {
-    if answer::SYNTHESIZER_CAUSES <= cause {
+    let kind = answer::Kind::Synthesizer;
+    if answer::cause_count(kind) <= cause {
         written[0] = 0;
         return 9;
     }
-    let w = output::speak_complete(out, name, id, cause);
-    tell(w, written)
+    tell(output::complete(out, kind, name, id, cause), written)
 }

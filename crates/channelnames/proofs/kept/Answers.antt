@@ -1,17 +1,14 @@
 -- `channelnames::kept` puts zeros after a name that fits. Assumes nothing.
-use mathlib.Core.Path.{refl}
+use mathlib.Core.List.{List, ◌++◌}
+use Prim.Native.Nat.{ℕ}
+use mathlib.Core.Path.{ap}
 use lib.ListN.{length}
-use native.Mathlib.Omega.{arith}
+use Rattle.std.proofs.lemmas.List.{drop-replicate}
+use Rattle.channelnames.specs.declared.Name.{Name}
 use Rattle.channelnames.proofs.kept.Goals as goal
 
-pub returns-then-v-gt-LONGEST : goal.returns-then-v-gt-LONGEST
-returns-then-v-gt-LONGEST c = record {
-  value = λ fits. absurd (omega (arith, fits, c.if-v-gt-LONGEST.true));
-  value_2 = λ long. refl;
-}
-
-pub returns : goal.returns
-returns c = record {
-  value = λ fits. λ i. record { bytes = c.padded-bytes.ensures i; size = length c.args.v.now };
-  value_2 = λ long. absurd (omega (arith, long, c.if-v-gt-LONGEST.false));
-}
+pub returns-clause-value : goal.returns-clause-value
+returns-clause-value c fits =
+    let v = c.args.v.now in
+    let behind : List ℕ → Name = λ l. record { bytes = v ++ l; size = length v } in
+    rw c.copy_from_slice.ensures.after (ap behind (drop-replicate (length v) 44 0))

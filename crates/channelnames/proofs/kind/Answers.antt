@@ -8,16 +8,16 @@ use Rattle.channelnames.specs.Names.{name_of}
 use Rattle.channelnames.proofs.Names.{bytes_44, size_is, within}
 use Rattle.channelnames.proofs.Tails.{recognizes, synthesizes, short_kind, other_end, long_kind, end_at}
 use Rattle.channelnames.proofs.kind.Goals as goal
+use Rattle.channelnames.proofs.kind.Goals.{then-size-lt-RESOURCE-via-then-size-lt-RESOURCE, then-size-lt-RESOURCE-via-else-size-lt-RESOURCE+then-size-gt-LONGEST}
 
 pub returns-then-size-lt-RESOURCE : goal.returns-then-size-lt-RESOURCE
 returns-then-size-lt-RESOURCE c =
     let n = c.args.n in
-    sym (short_kind (name_of n) (omega (arith, size_is n _ c.well_formed.0, c.if-size-lt-RESOURCE.true)))
-
-pub returns-then-size-gt-LONGEST : goal.returns-then-size-gt-LONGEST
-returns-then-size-gt-LONGEST c =
-    let n = c.args.n in
-    sym (long_kind n (bytes_44 n _ c.well_formed.0) c.if-size-gt-LONGEST.true (size_is n _ c.well_formed.0))
+    let size = size_is n _ c.well_formed.0 in
+    elim c.then-size-lt-RESOURCE.branch [
+      | then-size-lt-RESOURCE-via-then-size-lt-RESOURCE w ↦ sym (short_kind (name_of n) (omega (arith, size, w.if-size-lt-RESOURCE.true)))
+      | then-size-lt-RESOURCE-via-else-size-lt-RESOURCE+then-size-gt-LONGEST w ↦ sym (long_kind n (bytes_44 n _ c.well_formed.0) w.if-size-gt-LONGEST.true size)
+    ]
 
 pub returns-then-bytes-size-ne103 : goal.returns-then-bytes-size-ne103
 returns-then-bytes-size-ne103 c =

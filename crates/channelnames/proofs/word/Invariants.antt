@@ -1,18 +1,15 @@
--- `channelnames::word` counts the letters and digits at the front. The loop's invariant: what is passed and what the run has left make the whole run.
--- The measure is what is left of the name. Assumes nothing.
-use Prim.Native.Nat.{ℕ, ◌+◌, ◌-◌, ◌≤◌}
+-- `channelnames::word` counts the letters and digits at the front. The loop's invariant: what is passed and what the run has
+-- left make the whole run. Assumes nothing.
+use Prim.Native.Nat.{ℕ, ◌+◌}
 use mathlib.Core.Bool.{Bool, ◌||◌}
-use Rattle.octets.specs.Octets.{is_letter, is_digit}
 use mathlib.Core.Path.{◌≡◌}
-use lib.ListN.{length, drop}
+use lib.ListN.{drop}
 use Rattle.lists.specs.Lists.{run}
+use Rattle.octets.specs.Octets.{is_letter, is_digit}
 use Rattle.channelnames.proofs.word.Given as goal
 
 abbrev pub test : ℕ → Bool
 test b = is_letter b || is_digit b
 
 abbrev pub invariant-loop-i : goal.invariant-loop-i
-invariant-loop-i l = (l.i ≤ length l.name) × (run test l.name ≡ l.i + run test (drop l.i l.name))
-
-abbrev pub decreases-loop-i : goal.decreases-loop-i
-decreases-loop-i l = length l.name - l.i
+invariant-loop-i l = run test l.name ≡ l.i + run test (drop l.i l.name)

@@ -12,6 +12,8 @@ use lib.Dec.{eqb, leb}
 use lib.ListN.{length, get_or, replicate, length-append, length-map, length-replicate}
 use lib.Seq.{get_or-append_seam, get_or_at}
 use borrow.Author.Tests.{eqb-true, leb-true}
+use Rattle.std.specs.declared.option.Option as O
+use Rattle.std.specs.Prelude.{Some, None}
 use Rattle.lists.specs.Lists.{all, All}
 use Rattle.lists.proofs.Tests.{both}
 use Rattle.answer.specs.declared.Kind.{Kind}
@@ -24,8 +26,6 @@ use Rattle.synth.specs.declared.Entry.{Entry}
 use Rattle.synth.specs.declared.Level.{Level}
 use Rattle.synth.specs.declared.Setting.{Setting}
 use Rattle.synth.specs.declared.Edition.{Edition}
-use Rattle.synth.specs.declared.LastId.{LastId}
-use Rattle.synth.specs.declared.LastId.TheVariants.{NoneSeen, Seen}
 use Rattle.channelnumbers.specs.Numbers.{entry_number, thresholds, padded, queue_numbers, sort_number, value_number, setting_numbers, edition_numbers, editions_numbers, numbers_of, state_at, last_at, entry_at, leveled, numbers_at, entries_at, setting_at, with_setting, edition_from, joining, editions_from, editions_in, name_in, view_with, view_at, view_of}
 use Rattle.channelnumbers.proofs.Saving.{edition_six, queue_16}
 use Rattle.synth.proofs.Channels.{sound_facts}
@@ -84,9 +84,9 @@ state_back Paused = refl
 state_back Recognizing = refl
 state_back Recognized = refl
 
-last_back : (l : LastId) → last_at (first_above l) ≡ l
-last_back NoneSeen = refl
-last_back (Seen id) = refl
+last_back : (l : O.Option ℕ) → last_at (first_above l) ≡ l
+last_back None = refl
+last_back (Some id) = refl
 
 -- an entry but for its threshold
 abbrev bare : Entry → Entry

@@ -5,10 +5,11 @@ use Prim.Native.Nat.{ℕ, zero, suc}
 use mathlib.Core.Path.{◌≡◌, refl, sym, ap, subst, ◌∙◌}
 use mathlib.Core.Bool.{Bool, true, false, false≢true, not}
 use mathlib.Core.Option.{Option, none, some}
-use mathlib.Core.List.{List, [], ◌∷◌, ◌++◌}
+use mathlib.Core.List.{List, [], ◌∷◌}
 use lib.Dec.{eqb}
 use lib.Ieee.{Float}
 use lib.ListN.{take}
+use Rattle.std.specs.Prelude.{Some}
 use Rattle.lists.specs.Lists.{all, put, keep, All}
 use Rattle.lists.proofs.Tests.{both, choose}
 use Rattle.lists.proofs.Scans.{all_append}
@@ -19,7 +20,7 @@ use Rattle.answer.specs.declared.Kind.{Kind}
 use Rattle.synth.specs.Kinds.{kind_of, method_in}
 use Rattle.synth.specs.Levels.{level_in}
 use Rattle.synth.specs.Settings.{Name, Sort, flag, millis, level, settings, field_of, sort_of, slot, unset, level_or, setting_as, setting_in, kept_for, is_unset, other_kind, is_edition_of, newest, edition_at}
-use Rattle.synth.specs.Channel.{View, kind, fresh, with_last, is, is_busy, are_editions, sound}
+use Rattle.synth.specs.Channel.{View, kind, fresh, with_last, is, is_busy, sound}
 use Rattle.synth.specs.Request.{Request, is_recognize, method_of, request_of, acts, acting}
 use Rattle.synth.specs.Judgement.{Verdict, passes, fails, early, late}
 use Rattle.synth.specs.States.{Outcome, threshold_in, entry_of, joined, enter, ends, barge_in, set_by, changed, act, after_late, after_early, judge, is_match, counted, completed}
@@ -31,7 +32,6 @@ use Rattle.synth.specs.declared.Level.{Level}
 use Rattle.synth.specs.declared.Entry.{Entry}
 use Rattle.synth.specs.declared.Setting.{Setting}
 use Rattle.synth.specs.declared.Edition.{Edition}
-use Rattle.synth.specs.declared.LastId.TheVariants.{Seen}
 use Rattle.synth.proofs.Channels.{sound_facts}
 use Rattle.synth.proofs.Levels.{read_exact}
 use Rattle.synth.proofs.Nexts.{Next, same, judged, ended, gone, next_of}
@@ -221,7 +221,7 @@ module _ (k : Kind) (v : View) (named : kind_by v.name ≡ k) (z : Zeroed k v.qu
   judgement r suits = go (early v r)
     where
       go : (verdict : Verdict) → Keeps k (after_early verdict v r).next
-      go passes = let seen : View = with_last (Seen r.id) v in after_late_lem k seen named z t r suits (late seen r)
+      go passes = let seen : View = with_last (Some r.id) v in after_late_lem k seen named z t r suits (late seen r)
       go (fails status) = as_it_was k v named z t
 
   leaves : kind_of v.name ≡ k → (c : Call) → Keeps k (call v c).next

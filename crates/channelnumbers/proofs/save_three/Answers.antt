@@ -15,4 +15,4 @@ returns c =
       c.value_number-2.ensures,
       c.sort_number-3.ensures,
       c.value_number-3.ensures,
-    ) (λ long. stored_six a.ws.now a.at _ _ _ _ _ _ long room)
+    ) (stored_six a.ws.now a.at _ _ _ _ _ _ c.told-ws room)

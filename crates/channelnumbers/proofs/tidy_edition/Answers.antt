@@ -10,7 +10,7 @@ returns-in-Synthesizer c =
     let room : a.at ≤ 83 = search rules in
     let first = c.value_kept.ensures in
     let second = c.value_kept-2.ensures in
-    rw c.in-Synthesizer.is (synthesizer_tidied a.ws.now a.at _ _ room first second)
+    rw c.in-Synthesizer.is (λ e. synthesizer_tidied a.ws.now a.at _ _ room first second e c.told-ws)
 
 pub returns-in-Recognizer : goal.returns-in-Recognizer
 returns-in-Recognizer c =
@@ -19,4 +19,4 @@ returns-in-Recognizer c =
     let first = c.value_kept.ensures in
     let second = c.value_kept-2.ensures in
     let told = c.in-Recognizer.is in
-    rw told (λ e. recognizer_tidied a.ws.now a.at _ _ room first second e _ c.value_kept-in-Recognizer.ensures)
+    rw told (λ e. recognizer_tidied a.ws.now a.at _ _ room first second e _ c.value_kept-in-Recognizer.ensures c.told-ws)

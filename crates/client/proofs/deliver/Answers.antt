@@ -8,26 +8,26 @@ use Rattle.settings.specs.Kept.{further_on}
 use Rattle.client.proofs.Messages.{left_is}
 use Rattle.client.proofs.deliver.Goals as goal
 
-pub write-w-requires : goal.write-w-requires
-write-w-requires c = c.requires
+pub write-requires : goal.write-requires
+write-requires c = c.requires
 
-pub returns-in-TooLong : goal.returns-in-TooLong
-returns-in-TooLong c = λ es d n m.
+pub returns-in_err-written : goal.returns-in_err-written
+returns-in_err-written c = λ es d n m.
     let a = c.args in
     let v = with_last a.j.last (view a.last a.c es) in
-    let r = c.write-w.ensures v d refl n m in
+    let r = c.write.ensures v d refl n m in
     leaves_too_long a.last a.c es a.consumed a.out.now _ d refl _ r.0 _ r.1
-    c.in-TooLong.is c.refused.ensures
+    c.in_err-written.was c.from_residual.result c.from_residual.ensures.1
 
-pub returns-in-Count : goal.returns-in-Count
-returns-in-Count c = λ es d n m.
+pub returns : goal.returns
+returns c = λ es d n m.
     let a = c.args in
     let o = a.j.done.outcome in
     let v = with_last a.j.last (view a.last a.c es) in
-    let r = c.write-w.ensures v d refl n m in
-    let next = c.with_queue-next.result in
-    let left = left_is a.j.last a.c next o.state (list_of o.queue) a.j.done.effect (c.with_queue-next.ensures a.j.last) es in
+    let r = c.write.ensures v d refl n m in
+    let next = c.with_queue.result in
+    let left = left_is a.j.last a.c next o.state (list_of o.queue) a.j.done.effect (c.with_queue.ensures a.j.last) es in
     leaves_answer a.last a.c es a.consumed a.out.now _ d refl _ r.0 _ r.1
-    _ c.in-Count.is a.j.last next c.made-further.result
-    (ap (λ x. view a.j.last next (further_on x es)) c.made-further.ensures ∙ left ∙ m.left)
-    (ap (λ (v : View). v.name) (c.with_queue-next.ensures a.j.last es))
+    _ c.in_ok-written.was a.j.last next c.made.result
+    (ap (λ x. view a.j.last next (further_on x es)) c.made.ensures ∙ left ∙ m.left)
+    (ap (λ (v : View). v.name) (c.with_queue.ensures a.j.last es))

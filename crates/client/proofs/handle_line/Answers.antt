@@ -1,5 +1,5 @@
 -- `client::handle_line` judges a request, and refuses what is none. Assumes nothing.
-use mathlib.Core.Path.{◌≡◌, sym, ap, subst}
+use mathlib.Core.Path.{◌≡◌, refl, sym, ap, subst}
 use mathlib.Core.Bool.{true}
 use Prim.Native.Nat.{◌<◌}
 use lib.ListN.{length}
@@ -19,7 +19,7 @@ use Rattle.startline.specs.declared.Start.{Start}
 use Rattle.channel.specs.Channel.{view}
 use Rattle.calls.proofs.Leaving.{turned, leaves_refused}
 use Rattle.client.specs.Turns.{line_turn}
-use Rattle.client.proofs.Messages.{on_channel}
+use Rattle.client.proofs.Messages.{on_channel, no_request}
 use borrow.Author.Rules.{rules}
 use Rattle.client.proofs.handle_line.Goals as goal
 use Rattle.client.proofs.handle_line.Goals.{After-judge-j}
@@ -34,8 +34,8 @@ abbrev Comes : (c : After-judge-j) → View → Type 0
 Comes c v =
     let a = c.args in
     let f = a.f.now in
-    Judges v c.judge-j.result (S.judge v (asked a.major a.minor (method_in (kind v) (method_of (part f c.in-Request.name))) c.in-Request.id
-    (on_fields (part f) (fields_from (asks_params f (request c.in-Request.name c.in-Request.id)) f a.at))))
+    Judges v c.judge-j.result (S.judge v (asked a.frame.major a.frame.minor (method_in (kind v) (method_of (part f c.in-Request.name))) c.in-Request.id
+    (on_fields (part f) (fields_from (asks_params f (request c.in-Request.name c.in-Request.id)) f a.line.next))))
 
 comes : (c : After-judge-j) → let a = c.args in
     (es : List Edition) → newest es ≡ a.set → sound (view a.last a.c es) ≡ true → Comes c (view a.last a.c es)
@@ -46,20 +46,14 @@ comes c es n s =
 pub deliver-requires : goal.deliver-requires
 deliver-requires c = c.requires.size_bound
 
-pub returns-in-Request : goal.returns-in-Request
-returns-in-Request c es n s =
+pub returns-in_default : goal.returns-in_default
+returns-in_default c es n s =
     let a = c.args in
-    let turn = line_turn (view a.last a.c es) (length a.out.now) a.f.now a.major a.minor a.at in
-    turned (ap turn (sym c.in-Request.is)) (c.deliver.ensures es _ n (comes (goal.at.returns-in-Request c).After-judge-j es n s))
+    leaves_refused a.out.now refl
+    (no_request (view a.last a.c es) (length a.out.now) a.f.now a.frame.major a.frame.minor a.line.next a.line.start c.in_default.not-Request)
 
-pub returns-in-Response : goal.returns-in-Response
-returns-in-Response c es n s =
+pub returns : goal.returns
+returns c es n s =
     let a = c.args in
-    let turn = line_turn (view a.last a.c es) (length a.out.now) a.f.now a.major a.minor a.at in
-    leaves_refused 6 (length a.f.now) a.out.now c.refused.ensures (ap turn c.in-Response.is)
-
-pub returns-in-Event : goal.returns-in-Event
-returns-in-Event c es n s =
-    let a = c.args in
-    let turn = line_turn (view a.last a.c es) (length a.out.now) a.f.now a.major a.minor a.at in
-    leaves_refused 6 (length a.f.now) a.out.now c.refused-in-Event.ensures (ap turn c.in-Event.is)
+    let turn = line_turn (view a.last a.c es) (length a.out.now) a.f.now a.frame.major a.frame.minor a.line.next in
+    turned (ap turn (sym c.in-Request.is)) (c.deliver.ensures es _ n (comes (goal.at.returns c).After-judge-j es n s))

@@ -18,13 +18,16 @@ use Rattle.client.specs.Turns.{settings_told}
 use Rattle.client.proofs.tell.Goals as goal
 use Rattle.client.proofs.tell.Goals.{After-tell}
 
-pub slice_bounds-bytes-end : goal.slice_bounds-bytes-end
-slice_bounds-bytes-end c = omega (arith, bytes_44 c.args.name _ c.well_formed.0, c.requires)
+pub shared_ref_as_front-tell : goal.shared_ref_as_front-tell
+shared_ref_as_front-tell c = omega (arith, bytes_44 c.args.name _ c.well_formed.0, c.requires)
 
 pub slice_bounds-tell-end : goal.slice_bounds-tell-end
 slice_bounds-tell-end c =
     let name = c.args.name in
     sym (length-take-le name.size name.bytes (omega (arith, bytes_44 name _ c.well_formed.0, c.requires)))
+
+pub shared_ref_as_front-tell-2 : goal.shared_ref_as_front-tell-2
+shared_ref_as_front-tell-2 c = c.text-fields.ensures.1
 
 pub slice_bounds-tell-end-2 : goal.slice_bounds-tell-end-2
 slice_bounds-tell-end-2 c = simp length-take (omega arith)

@@ -2,15 +2,12 @@
 use mathlib.Core.Path.{ap, subst, ◌∙◌}
 use Rattle.output.specs.Delivery.{counted, delivered}
 use Rattle.channelnames.specs.Names.{name_of}
-use Rattle.params.specs.Doing.{said_by, EndsTelling}
-use Rattle.client.proofs.Messages.{listed_written, told_written}
+use Rattle.params.specs.Doing.{EndsTelling}
+use Rattle.client.proofs.Messages.{lists, listed_written, told_written}
 use Rattle.client.proofs.write.Goals as goal
 
 pub respond-requires : goal.respond-requires
 respond-requires c = c.requires
-
-pub respond-requires-in-Set : goal.respond-requires-in-Set
-respond-requires-in-Set c = c.requires
 
 pub tell-requires : goal.tell-requires
 tell-requires c = c.requires
@@ -18,17 +15,8 @@ tell-requires c = c.requires
 pub returns-in-Nothing : goal.returns-in-Nothing
 returns-in-Nothing c = λ v d n s does.
     let a = c.args in
-    let e = listed_written (name_of a.name) n (ap (λ x. said_by x v a.done.outcome) c.in-Nothing.is) does in
+    let e = listed_written (name_of a.name) n (lists v a.done.outcome c.in-Nothing.is) does in
     let r = c.respond.ensures in (
-      r.value does.few ∙ ap (λ l. counted l a.out.now) e,
-      r.out_after does.few ∙ ap (λ l. delivered l a.out.now) e,
-    )
-
-pub returns-in-Set : goal.returns-in-Set
-returns-in-Set c = λ v d n s does.
-    let a = c.args in
-    let e = listed_written (name_of a.name) n (ap (λ x. said_by x v a.done.outcome) c.in-Set.is) does in
-    let r = c.respond-in-Set.ensures in (
       r.value does.few ∙ ap (λ l. counted l a.out.now) e,
       r.out_after does.few ∙ ap (λ l. delivered l a.out.now) e,
     )

@@ -14,7 +14,7 @@ use Rattle.synth.specs.Channel.{View}
 use Rattle.synth.specs.Calls.{Reply, call}
 use Rattle.synth.proofs.Theorems.Soundness.{call_sound}
 use Rattle.channel.specs.Channel.{view}
-use Rattle.calls.specs.Promise.{Left, left_by}
+use Rattle.calls.specs.Promise.{Left, left_by, returned}
 use Rattle.demands.specs.Demands.{Line, outcome, stated, table, first_due, ByTable, Demand1OfTheCode}
 use Rattle.demands.proofs.Lines.{Gives, tabled}
 
@@ -32,7 +32,7 @@ demand1_of_the_code last c es lent out r after p =
     by_line_lem none e = p.same ∙ ap (λ (t : Turn View Reply). left_by t out) e
     by_line_lem (some l) (e, not_0, x) =
         let same = p.same ∙ ap (λ (t : Turn View Reply). left_by t out) e in
-        let number : r.number ≡ l.number = ap (λ (x : Left). x.number) same in
+        let number : (returned last c r).number ≡ l.number = ap (λ (x : Left). x.number) same in
         let kept = p.kept (λ z. false≢true (sym not_0 ∙ ap (λ (n : ℕ). eqb n 0) (sym number ∙ z))) in (
           λ i. record {
             number = number i;

@@ -9,16 +9,15 @@ use mathlib.Core.List.{List, [], ◌∷◌}
 use lib.Ieee.{Float}
 use lib.Dec.{ltb}
 use lib.ListN.{length, take}
-use Rattle.framing.specs.Framing.{framing, frame_length}
-use Rattle.framing.specs.declared.Framing.{Framing}
-use Rattle.framing.specs.declared.Framing.TheVariants.{More, NoMessage, TooLong, TooShort, Frame}
+use Rattle.std.proofs.Common.{Ok, Err}
+use Rattle.framing.specs.Framing.{Framing, Frame, framing, frame_length}
+use Rattle.framing.specs.declared.NoFrame.TheVariants.{More, NoMessage, TooLong, TooShort}
 use Rattle.message.specs.Message.{Start, Fields, Head, Reading, refused, message}
 use Rattle.message.specs.StartLines.{Started, started, start_line}
 use Rattle.message.specs.Reading.{read_from, read_framed, reading}
 use Rattle.message.specs.declared.Span.{Span}
-use Rattle.whose.specs.Whose.{whose, whose_face}
-use Rattle.whose.specs.declared.Whose.{Whose}
-use Rattle.whose.specs.declared.Whose.TheVariants as W
+use Rattle.whose.specs.Whose.{Whose, whose, whose_face}
+use Rattle.whose.specs.declared.NoId.TheVariants as W
 use Rattle.messagenumbers.specs.Layout.{message_numbers}
 use Rattle.firmware.specs.Face.{framed, frame_face, ReadFace, consuming, read_as, read_face, called}
 use Rattle.synth.specs.Channel.{View, well_named, sound, held}
@@ -65,11 +64,11 @@ module _ (s out : List ℕ) where
 
   by_framing : (x : Framing) → framing s ≡ x → Tabled (frames s out)
   unfolding frame_face refusals
-  by_framing More f = rw (f, frame_face, refusals)
-  by_framing NoMessage f = rw (f, frame_face, refusals)
-  by_framing TooLong f = rw (f, frame_face, refusals)
-  by_framing TooShort f = rw (f, frame_face, refusals)
-  by_framing (Frame a b k n) f = framed_fits a b k n f (ltb (length out) 4) refl
+  by_framing (Err More) f = rw (f, frame_face, refusals)
+  by_framing (Err NoMessage) f = rw (f, frame_face, refusals)
+  by_framing (Err TooLong) f = rw (f, frame_face, refusals)
+  by_framing (Err TooShort) f = rw (f, frame_face, refusals)
+  by_framing (Ok x) f = framed_fits x.major x.minor x.opening x.length f (ltb (length out) 4) refl
 
 -- reading, by framing, by the start line, and by whether the message's numbers fit
 module _ (s out consumed : List ℕ) (place : length consumed ≡ 1) where
@@ -118,11 +117,11 @@ module _ (s out consumed : List ℕ) (place : length consumed ≡ 1) where
 
   read_framed_lem : (x : Framing) → framing s ≡ x → reading s ≡ read_framed s x → Tabled (reads s out consumed)
   unfolding refusals
-  read_framed_lem More f e = refused_as 1 0 (rw (f, refusals)) e
-  read_framed_lem NoMessage f e = refused_as 2 0 (rw (f, refusals)) e
-  read_framed_lem TooLong f e = refused_as 3 0 (rw (f, refusals)) e
-  read_framed_lem TooShort f e = refused_as 4 0 (rw (f, refusals)) e
-  read_framed_lem (Frame a b k n) f e = by_start a b k n f (start_line k (take n s)) refl e
+  read_framed_lem (Err More) f e = refused_as 1 0 (rw (f, refusals)) e
+  read_framed_lem (Err NoMessage) f e = refused_as 2 0 (rw (f, refusals)) e
+  read_framed_lem (Err TooLong) f e = refused_as 3 0 (rw (f, refusals)) e
+  read_framed_lem (Err TooShort) f e = refused_as 4 0 (rw (f, refusals)) e
+  read_framed_lem (Ok x) f e = by_start x.major x.minor x.opening x.length f (start_line x.opening (take x.length s)) refl e
 
   read_tabled : Tabled (reads s out consumed)
   unfolding reading
@@ -132,11 +131,11 @@ module _ (s out consumed : List ℕ) (place : length consumed ≡ 1) where
 module _ (s id : List ℕ) (place : length id ≡ 1) where
   by_whose : (w : Whose) → whose s ≡ w → Tabled (asks s id)
   unfolding whose_face refusals
-  by_whose W.More e = rw (e, whose_face, refusals)
-  by_whose W.NoMessage e = rw (e, whose_face, refusals)
-  by_whose W.TooShort e = rw (e, whose_face, refusals)
-  by_whose W.Malformed e = rw (e, whose_face, refusals)
-  by_whose (W.Id i) e =
+  by_whose (Err W.More) e = rw (e, whose_face, refusals)
+  by_whose (Err W.NoMessage) e = rw (e, whose_face, refusals)
+  by_whose (Err W.TooShort) e = rw (e, whose_face, refusals)
+  by_whose (Err W.Malformed) e = rw (e, whose_face, refusals)
+  by_whose (Ok i) e =
       by (asks s id) none (rw (e, refusals))
       (rw (e, whose_face) (λ j. record { number = 0; id = one_place id i place j })
       ∙ ap (λ (w : Whose). record { number = 0; id = id_numbers w }) (sym e))

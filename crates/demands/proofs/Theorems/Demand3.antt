@@ -14,9 +14,9 @@ use Rattle.synth.specs.Settings.{unset}
 use Rattle.synth.specs.Channel.{View, kind, are_editions, are_levels, shaped, sound}
 use Rattle.synth.specs.Calls.{Call, Reply, call}
 use Rattle.synth.specs.Demand3.{Meets}
-use Rattle.synth.specs.declared.LastId.TheVariants.{NoneSeen}
 use Rattle.synth.proofs.Theorems.Demand3.{demand3}
 use Rattle.synth.proofs.Theorems.Soundness.{call_sound}
+use Rattle.std.proofs.Common.{None}
 use Rattle.channel.specs.declared.Opened.{Opened}
 use Rattle.channel.proofs.Parts.{unshaped, shaped_sound}
 use Rattle.calls.proofs.Leaving.{unsound_refused}
@@ -50,14 +50,14 @@ opening_fits o = go (shaped (viewed (opening o))) refl
     are Kind.Recognizer = unfold are_editions in refl
 
     go : (b : Bool) → shaped (viewed (opening o)) ≡ b → Fits (viewed (opening o))
-    go true e = sym (shaped_sound NoneSeen o.channel (unset ∷ []) e) ∙ are (kind (viewed (opening o))) ∙ sym e
+    go true e = sym (shaped_sound None o.channel (unset ∷ []) e) ∙ are (kind (viewed (opening o))) ∙ sym e
     go false e = unshaped (viewed (opening o)) e ∙ sym e
 
 -- what is seen of the call is the definition's reply: the bytes written stand at the front of the output
 pub meets : {kept : Kept} {k : Call} {r : Reply} {next : Kept} → Called kept k r next → Fits (viewed kept) → Meets viewed kept k r next
 meets {kept} {k} {r} {next} m fits =
     let t = call (viewed kept) k in
-    let same : left_in kept.editions m.handled m.after ≡ left_by t m.out =
+    let same : left_in kept.last kept.channel kept.editions m.handled m.after ≡ left_by t m.out =
     (m.promised fits).same ∙ ap (λ (n : ℕ). left_by (call (viewed kept) (record { lent = k.lent; room = n })) m.out) (sym m.room) in
     let front = take-append_seam t.reply.written (drop (length t.reply.written) m.out) in
     record {

@@ -14,7 +14,6 @@ use Rattle.ledger.specs.Ledger.{Exchange, Run, ended, called, Turn}
 use Rattle.synth.specs.Channel.{View, fresh, well_named, sound}
 use Rattle.synth.specs.Calls.{Lent, input, report, back, Call, Reply, Opened, refuse, call, open_channel}
 use Rattle.synth.specs.Demand3.{Meets}
-use Rattle.synth.proofs.Channels.{sound_facts}
 use Rattle.synth.proofs.Theorems.Demand3.{demand3}
 use Rattle.synth.proofs.Theorems.Soundness.{call_sound, refused_keeps}
 use Rattle.channelnames.proofs.Fits.{name_fits_lem}

@@ -8,7 +8,7 @@ use mathlib.Core.Option.{none, some}
 use mathlib.Core.List.{List, [], ◌∷◌, ◌++◌}
 use lib.ListN.{length}
 use borrow.Author.Tests.{le-ltb}
-use Rattle.framing.specs.declared.Framing.{Framing}
+use Rattle.framing.specs.Framing.{Framing}
 use Rattle.framing.proofs.Theorems.Waiting.{two_hundred, still_asks, handed_out}
 use Rattle.synth.specs.Channel.{sound}
 use Rattle.demands.specs.Demands.{given, table}

@@ -3,6 +3,7 @@ use Prim.Native.Nat.{◌<◌}
 use mathlib.Core.Path.{sym, ap, ◌∙◌}
 use mathlib.Core.List.{[]}
 use native.Mathlib.Omega.{arith}
+use Rattle.std.proofs.Common.{None}
 use lib.ListN.{length}
 use lib.Seq.{length-take-le}
 use Rattle.answer.specs.declared.Kind.{Kind}
@@ -13,39 +14,41 @@ use Rattle.queue.specs.Queue.{list_of}
 use Rattle.channelnames.proofs.Names.{within}
 use Rattle.channel.specs.Channel.{view}
 use Rattle.channel.proofs.Parts.{bytes_44, size_short}
-use Rattle.settings.specs.declared.Further.{Further}
 use Rattle.calls.proofs.Leaving.{leaves_too_long, leaves_answer}
 use Rattle.engine.proofs.Reports.{queue_within, event_written}
 use Rattle.engine.proofs.end_speech.Goals as goal
 
-pub slice_bounds-bytes-end : goal.slice_bounds-bytes-end
-slice_bounds-bytes-end c =
+pub shared_ref_as_front-name : goal.shared_ref_as_front-name
+shared_ref_as_front-name c =
     let ch = c.args.c in
     omega (arith, bytes_44 ch _ c.well_formed.1.0, size_short ch _ c.well_formed.1.0 c.args.last [] (c.requires []))
 
-pub slice_bounds-speak_complete-end : goal.slice_bounds-speak_complete-end
-slice_bounds-speak_complete-end c =
+pub slice_bounds-name-end : goal.slice_bounds-name-end
+slice_bounds-name-end c =
     let ch = c.args.c in
     sym (length-take-le ch.name.size ch.name.bytes (omega (arith, bytes_44 ch _ c.well_formed.1.0, size_short ch _ c.well_formed.1.0 c.args.last [] (c.requires []))))
 
-pub returns-in-TooLong : goal.returns-in-TooLong
-returns-in-TooLong c = λ es e queue q.
+pub returns-in_err-written : goal.returns-in_err-written
+returns-in_err-written c = λ es e queue q.
     let a = c.args in
     let v = view a.last a.c es in
     let named = within a.c.name (size_short a.c _ c.well_formed.1.0 a.last [] (c.requires [])) in
     let says = event_written v _ _ e queue a.cause q c.active-active.ensures named in
-    leaves_too_long a.last a.c es 0 a.out.now _ (ends_one Kind.Synthesizer Idle Speaking e queue v a.cause) says _ c.speak_complete-w.ensures.value _ c.speak_complete-w.ensures.out_after
-    c.in-TooLong.is c.refused.ensures
+    let w = c.complete.ensures in
+    leaves_too_long a.last a.c es 0 a.out.now _ (ends_one Kind.Synthesizer Idle Speaking e queue v a.cause) says _ w.value _ w.out_after
+    c.in_err-written.was c.from_residual.result c.from_residual.ensures.1
 
-pub returns-in-Count : goal.returns-in-Count
-returns-in-Count c = λ es e queue q.
+pub returns : goal.returns
+returns c = λ es e queue q.
     let a = c.args in
     let v = view a.last a.c es in
     let named = within a.c.name (size_short a.c _ c.well_formed.1.0 a.last [] (c.requires [])) in
     let says = event_written v _ _ e queue a.cause q c.active-active.ensures named in
     let short : length queue < 16 = omega (arith, queue_within v (c.requires es), ap length q) in
     let rest = c.without_active-rest.ensures e queue q short in
-    leaves_answer a.last a.c es 0 a.out.now _ (ends_one Kind.Synthesizer Idle Speaking e queue v a.cause) says _ c.speak_complete-w.ensures.value _ c.speak_complete-w.ensures.out_after
-    _ c.in-Count.is a.last c.with_queue-next.result Further.Nothing
-    (c.with_queue-next.ensures a.last es ∙ (λ i. with_queue (c.while_any-state.ensures i) (list_of c.without_active-rest.result) v) ∙ (λ i. with_queue (while_any Idle Speaking (rest i)) (rest i) v))
-    (ap (λ (x : View). x.name) (c.with_queue-next.ensures a.last es))
+    let w = c.complete.ensures in
+    let next = c.with_queue.ensures a.last es in
+    leaves_answer a.last a.c es 0 a.out.now _ (ends_one Kind.Synthesizer Idle Speaking e queue v a.cause) says _ w.value _ w.out_after
+    _ c.in_ok-written.was a.last c.with_queue.result None
+    (next ∙ (λ i. with_queue (c.while_any-state.ensures i) (list_of c.without_active-rest.result) v) ∙ (λ i. with_queue (while_any Idle Speaking (rest i)) (rest i) v))
+    (ap (λ (x : View). x.name) next)

@@ -14,7 +14,7 @@ use Rattle.engine.proofs.report.Goals as goal
 pub returns-then-not-is_shaped : goal.returns-then-not-is_shaped
 returns-then-not-is_shaped c = λ es whole.
     let a = c.args in
-    leaves_refused 21 0 a.out.now c.refused.ensures
+    leaves_refused a.out.now c.into.ensures
     (unsound_refused (view a.last a.c es) _
     (unshaped (view a.last a.c es) (sym (c.is_shaped.ensures es) ∙ c.if-not-is_shaped.true)))
 
@@ -24,7 +24,7 @@ returns-then-cause_count-cause c = λ es whole.
     let sane = whole ∙ sym (c.is_shaped.ensures es) ∙ c.if-not-is_shaped.false in
     let k = c.kind-kind in
     let above : length (cause_names k.result) ≤ a.cause = omega (arith, c.cause_count.ensures, c.if-cause_count-cause.true) in
-    leaves_refused 9 0 a.out.now c.refused-then-cause_count-cause.ensures
+    leaves_refused a.out.now c.into-then-cause_count-cause.ensures
     (no_such_cause (view a.last a.c es) k.result (sym k.ensures) a.cause a.score (length a.out.now) sane above)
 
 pub returns-then-is_none : goal.returns-then-is_none
@@ -33,7 +33,7 @@ returns-then-is_none c = λ es whole.
     let sane = whole ∙ sym (c.is_shaped.ensures es) ∙ c.if-not-is_shaped.false in
     let k = c.kind-kind in
     let has : a.cause < length (cause_names k.result) = omega (arith, c.cause_count.ensures, c.if-cause_count-cause.false) in
-    leaves_refused 11 0 a.out.now c.refused-then-is_none.ensures
+    leaves_refused a.out.now c.into-then-is_none.ensures
     (no_number (view a.last a.c es) k.result (sym k.ensures) a.cause a.score (length a.out.now) sane has
     (sym c.is_none.ensures ∙ c.if-is_none.true))
 
@@ -43,7 +43,7 @@ returns-then-not-awaits c = λ es whole.
     let sane = whole ∙ sym (c.is_shaped.ensures es) ∙ c.if-not-is_shaped.false in
     let k = c.kind-kind in
     let has : a.cause < length (cause_names k.result) = omega (arith, c.cause_count.ensures, c.if-cause_count-cause.false) in
-    leaves_refused 8 0 a.out.now c.refused-then-not-awaits.ensures
+    leaves_refused a.out.now c.into-then-not-awaits.ensures
     (nothing_awaited (view a.last a.c es) k.result (sym k.ensures) a.cause a.score (length a.out.now) sane has
     (sym c.is_none.ensures ∙ c.if-is_none.false) (sym c.awaits.ensures ∙ c.if-not-awaits.true))
 

@@ -9,9 +9,16 @@ use Rattle.octets.specs.Octets.{classes, Stands}
 use Rattle.fieldlines.proofs.class_end.Given as goal
 
 abbrev pub invariant-loop-i : goal.invariant-loop-i
-invariant-loop-i l = (l.at ≤ l.i) × (l.last ≡ length l.f - 3) × (l.at ≤ length l.f → l.i ≤ length l.f)
-    × (l.class ≡ classes → (test : ℕ → Bool) → Stands l.kind test
-    → l.at + run test (drop l.at l.f) ≡ l.i + run test (drop l.i l.f))
+invariant-loop-i l = record {
+  onward : l.at ≤ l.i;
+  inside : l.at ≤ length l.f → l.i ≤ length l.f;
+  runs : l.class ≡ classes → (test : ℕ → Bool) → Stands l.kind test
+      → l.at + run test (drop l.at l.f) ≡ l.i + run test (drop l.i l.f);
+}
+
+abbrev pub invariant-loop-j : goal.invariant-loop-j
+invariant-loop-j l = l.class ≡ classes → (test : ℕ → Bool) → Stands l.kind test
+    → l.i + run test (drop l.i l.f) ≡ l.j + run test (drop l.j l.f)
 
 abbrev pub decreases-loop-i : goal.decreases-loop-i
-decreases-loop-i l = length l.f - l.i
+decreases-loop-i l = l.last - l.i

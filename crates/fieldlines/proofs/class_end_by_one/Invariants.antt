@@ -10,9 +10,12 @@ use Rattle.octets.specs.Octets.{classes, Stands}
 use Rattle.fieldlines.proofs.class_end_by_one.Given as goal
 
 abbrev pub invariant-loop-i : goal.invariant-loop-i
-invariant-loop-i l = (l.at ≤ l.i) × (l.at ≤ length l.f → l.i ≤ length l.f)
-    × (l.class ≡ classes → (test : ℕ → Bool) → Stands l.kind test
-    → l.at + run test (drop l.at l.f) ≡ l.i + run test (drop l.i l.f))
+invariant-loop-i l = record {
+  onward : l.at ≤ l.i;
+  inside : l.at ≤ length l.f → l.i ≤ length l.f;
+  runs : l.class ≡ classes → (test : ℕ → Bool) → Stands l.kind test
+      → l.at + run test (drop l.at l.f) ≡ l.i + run test (drop l.i l.f);
+}
 
 abbrev pub decreases-loop-i : goal.decreases-loop-i
 decreases-loop-i l = length l.f - l.i

@@ -10,8 +10,12 @@ use Rattle.fieldlines.specs.Steps.{value_run}
 use Rattle.fieldlines.proofs.folds_end.Given as goal
 
 abbrev pub invariant-loop-i : goal.invariant-loop-i
-invariant-loop-i l = (l.at ≤ l.i) × (l.i ≤ length l.f)
-    × (l.class ≡ classes → (l.at + value_run (drop l.at l.f) ≡ l.i + value_run (drop l.i l.f)) × (run is_value (drop l.i l.f) ≡ 0))
+invariant-loop-i l = record {
+  onward : l.at ≤ l.i;
+  inside : l.i ≤ length l.f;
+  runs : l.class ≡ classes
+      → (l.at + value_run (drop l.at l.f) ≡ l.i + value_run (drop l.i l.f)) × (run is_value (drop l.i l.f) ≡ 0);
+}
 
 abbrev pub decreases-loop-i : goal.decreases-loop-i
 decreases-loop-i l = length l.f - l.i

@@ -2,15 +2,10 @@
 -- the gaps at its end.
 -- Assumes nothing.
 use mathlib.Core.Path.{◌≡◌}
-use Prim.Native.Nat.{◌-◌, ◌≤◌}
-use lib.ListN.{length}
 use Rattle.octets.specs.Octets.{classes}
 use Rattle.message.specs.Fields.{trim_end}
 use Rattle.fieldlines.proofs.Runs.{text}
 use Rattle.fieldlines.proofs.solid_end.Given as goal
 
 abbrev pub invariant-loop-e : goal.invariant-loop-e
-invariant-loop-e l = (l.at ≤ l.e) × (l.e ≤ length l.f) × (l.class ≡ classes → trim_end (text l.f l.at l.end) ≡ trim_end (text l.f l.at l.e))
-
-abbrev pub decreases-loop-e : goal.decreases-loop-e
-decreases-loop-e l = l.e - l.at
+invariant-loop-e l = l.class ≡ classes → trim_end (text l.f l.at l.end) ≡ trim_end (text l.f l.at l.e)

@@ -6,8 +6,7 @@ use Prim.Native.Nat.{ℕ}
 use native.Mathlib.Omega.{arith}
 use lib.ListN.{take}
 use lib.Seq.{length-take-le}
-use Rattle.framing.specs.Framing.{framing, refusal}
-use Rattle.framing.specs.declared.Framing.TheVariants.{Frame}
+use Rattle.framing.specs.Framing.{Frame, framing, refusal}
 use Rattle.framing.proofs.Frames.{frame_opened, opened_frame, still_opened, unchanged}
 
 pub frame_alone : (s : List ℕ) (a b k n : ℕ) → framing s ≡ Frame a b k n → framing (take n s) ≡ Frame a b k n

@@ -7,9 +7,10 @@ use lib.Dec.{lit≤}
 use lib.ListN.{length, replicate}
 use Rattle.octets.specs.Octets.{bytes}
 use Rattle.readers.specs.Readers.{got}
-use Rattle.framing.specs.Framing.{opening, framed, framing}
+use Rattle.std.specs.Prelude.{Err}
+use Rattle.framing.specs.Framing.{Frame, opening, framed, framing}
 use Rattle.framing.specs.declared.Opening.{Opening}
-use Rattle.framing.specs.declared.Framing.TheVariants.{More, Frame}
+use Rattle.framing.specs.declared.NoFrame.TheVariants.{More}
 use Rattle.framing.proofs.Frames.{measured_waits, measured_whole}
 
 -- the start line of a SPEAK of 4,000 bytes, and whatever follows it up to 200
@@ -21,7 +22,7 @@ unfolding two_hundred
 counted = refl
 
 -- computed on the definition
-pub asks_for_more : framing two_hundred ≡ More
+pub asks_for_more : framing two_hundred ≡ Err More
 unfolding framing opening two_hundred
 asks_for_more = refl
 
@@ -39,7 +40,7 @@ module _ (t : List ℕ) where
   as_opened = ap (λ r. framed r (length (two_hundred ++ t))) opened
 
   -- fewer than 4,000 in all: refusal 1 again
-  pub still_asks : length (two_hundred ++ t) < 4000 → framing (two_hundred ++ t) ≡ More
+  pub still_asks : length (two_hundred ++ t) < 4000 → framing (two_hundred ++ t) ≡ Err More
   still_asks h = as_opened ∙ measured_waits says 14 (length (two_hundred ++ t)) (lit≤ tt) (lit≤ tt) h
 
   -- 4,000 or more: the first 4,000 are the message

@@ -1,21 +1,20 @@
--- `header::number` meets its contract: each `return` by the digits at the front.
+-- `header::number` meets its contract, by the digits at the front.
 -- Assumes nothing.
-use mathlib.Core.Path.{sym}
-use Rattle.header.proofs.Lengths.{stated_none, stated_part, stated_whole}
+use mathlib.Core.Path.{ap, ◌∙◌}
+use Rattle.std.specs.Bool.{then_some}
+use borrow.Author.Tests.{eq-eqb}
+use mathlib.Core.Bool.{not}
+use Rattle.header.proofs.Lengths.{stated_none, stated_whole}
 use Rattle.header.proofs.number.Goals as goal
-
-pub returns-then-count-v : goal.returns-then-count-v
-returns-then-count-v c =
-    let d = c.digits_at-d in
-    sym (stated_part c.args.v.now d.result d.ensures c.if-count-v.true)
-
-pub returns-then-count-eq0 : goal.returns-then-count-eq0
-returns-then-count-eq0 c =
-    let d = c.digits_at-d in
-    sym (stated_none c.args.v.now d.result d.ensures c.if-count-eq0.true)
+use Rattle.header.proofs.number.Goals.{then-d-ne0, else-d-ne0}
 
 pub returns : goal.returns
 returns c =
     let d = c.digits_at-d in
-    let v = c.args.v.now in
-    sym (stated_whole v d.result d.ensures c.if-count-eq0.false c.if-count-v.false)
+    c.then_some.ensures ∙ elim c.if-d-ne0.branch [
+      | then-d-ne0 w ↦ ap (λ b. then_some b d.result.value) w.then_some-is
+          ∙ stated_whole c.args.v.now d.result d.ensures w.if-d-ne0.true
+      | else-d-ne0 w ↦ ap (λ b. then_some b d.result.value)
+          (w.then_some-is ∙ ap not (eq-eqb d.result.count 0 w.if-d-ne0.false))
+          ∙ stated_none c.args.v.now d.result d.ensures w.if-d-ne0.false
+    ]

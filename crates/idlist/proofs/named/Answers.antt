@@ -1,51 +1,48 @@
--- `idlist::named` meets its contract. The invariant: a word begins at i, and what is left of the pass equals the whole.
+-- `idlist::named` meets its contract.
 -- Assumes nothing.
-use Prim.Native.Nat.{◌+◌, ◌≤◌}
+use mathlib.Core.Path.{◌≡◌, ap, ◌∙◌}
+use mathlib.Core.List.{[], ◌∷◌}
+use mathlib.Core.Bool.{true}
 use native.Mathlib.Omega.{arith}
-use lib.ListN.{length}
-use Rattle.digits.specs.declared.Digits.{Digits}
-use Rattle.idlist.proofs.Pass.{started, room, no_comma, wrong_id, in_range_lem, last_id, next_id}
+use Rattle.std.proofs.lemmas.Grind.{common_steps}
+use Rattle.idlist.specs.Named.{in_range}
+use Rattle.idlist.proofs.Pass.{found, started, room, no_comma, wrong_id, last_id, next_id}
 use Rattle.idlist.proofs.named.Goals as goal
-use Rattle.idlist.proofs.named.Goals.{Else-not-in_range}
+use Rattle.idlist.proofs.named.Goals.{After-places}
 
-pub loop-bits-init : goal.loop-bits-init
-loop-bits-init c = let a = c.args in (started a.ids.now a.v.now, omega arith)
+pub loop-d-init : goal.loop-d-init
+loop-d-init c = let a = c.args in (started a.ids.now a.v.now, omega arith)
 
-pub returns-then-not-in_range : goal.returns-then-not-in_range
-returns-then-not-in_range c = wrong_id c.loop-bits.invariant.0 _ c.digits_at-d.ensures c.in_range.ensures c.if-not-in_range.true
+pub returns-then-d-eq0 : goal.returns-then-d-eq0
+returns-then-d-eq0 c = wrong_id c.loop-d.invariant.0 _ c.digits_at-d.ensures (grind (arith, common_steps))
 
--- the digits that were read are an id
-module _ (c : Else-not-in_range) where
-  abbrev d : Digits
-  d = c.digits_at-d.result
-
-  small : d.value ≤ 4294967295
-  small =
-      let at = c.before.before in
-      in_range_lem at.loop-bits.invariant.0 _ at.digits_at-d.ensures c.in_range.ensures c.if-not-in_range.false
-
-  fits : c.loop-bits.i + d.count
-      ≤ length c.args.v.now
-  fits =
-      let at = c.before.before in
-      room at.loop-bits.invariant.0 d at.digits_at-d.ensures at.loop-bits.invariant.1
-
-pub overflow_cast-value : goal.overflow_cast-value
-overflow_cast-value c = omega (arith, small (goal.at.overflow_cast-value c).Else-not-in_range)
+pub returns-in_err-ok : goal.returns-in_err-ok
+returns-in_err-ok c =
+    c.from_residual.ensures
+    ∙ wrong_id c.loop-d.invariant.0 _ c.digits_at-d.ensures (grind (arith, common_steps))
 
 pub overflow_add-i : goal.overflow_add-i
-overflow_add-i c = omega (arith, fits (goal.at.overflow_add-i c).Else-not-in_range)
+overflow_add-i c = omega (arith, room c.loop-d.invariant.0 _ c.digits_at-d.ensures c.loop-d.invariant.1)
+
+-- what was read is an id
+is_id : (c : After-places) → in_range c.digits_at-d.result.value c.digits_at-d.result.count ≡ true
+is_id c = grind (arith, common_steps)
+
+found_there : (c : After-places) → c.places.result ≡ found c.args.ids.now (c.digits_at-d.result.value ∷ [])
+found_there c = c.places.ensures ∙ ap (λ id. found c.args.ids.now (id ∷ [])) (grind (arith, common_steps))
 
 pub returns-then-v-i : goal.returns-then-v-i
-returns-then-v-i c = last_id c.loop-bits.invariant.0 _ c.digits_at-d.ensures c.in_range.ensures c.if-not-in_range.false
-    c.places-bits.ensures c.if-v-i.true
+returns-then-v-i c =
+    let at = (goal.at.returns-then-v-i c).After-places in
+    last_id c.loop-d.invariant.0 _ c.digits_at-d.ensures (is_id at) (found_there at) c.if-v-i.true
 
 pub returns-then-v-i-ne44 : goal.returns-then-v-i-ne44
-returns-then-v-i-ne44 c = no_comma c.loop-bits.invariant.0 _ c.digits_at-d.ensures (omega arith) c.if-v-i-ne44.true
+returns-then-v-i-ne44 c = no_comma c.loop-d.invariant.0 _ c.digits_at-d.ensures (omega arith) c.if-v-i-ne44.true
 
-pub loop-bits-preserved : goal.loop-bits-preserved
-loop-bits-preserved c = (
-  next_id c.loop-bits.invariant.0 _ c.digits_at-d.ensures c.in_range.ensures c.if-not-in_range.false
-      c.places-bits.ensures (omega arith) c.if-v-i-ne44.false,
-  omega arith,
-)
+pub loop-d-preserved : goal.loop-d-preserved
+loop-d-preserved c =
+    let at = (goal.at.loop-d-preserved c).After-places in (
+      next_id c.loop-d.invariant.0 _ c.digits_at-d.ensures (is_id at) (found_there at) (omega arith)
+          c.if-v-i-ne44.false,
+      omega arith,
+    )

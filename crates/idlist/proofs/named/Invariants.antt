@@ -5,8 +5,8 @@ use lib.ListN.{length}
 use Rattle.idlist.proofs.Pass.{Midway}
 use Rattle.idlist.proofs.named.Given as goal
 
-abbrev pub invariant-loop-bits : goal.invariant-loop-bits
-invariant-loop-bits l = Midway l.ids l.v l.bits l.i × (l.i ≤ length l.v)
+abbrev pub invariant-loop-d : goal.invariant-loop-d
+invariant-loop-d l = Midway l.ids l.v l.bits l.i × (l.i ≤ length l.v)
 
-abbrev pub decreases-loop-bits : goal.decreases-loop-bits
-decreases-loop-bits l = length l.v - l.i
+abbrev pub decreases-loop-d : goal.decreases-loop-d
+decreases-loop-d l = length l.v - l.i

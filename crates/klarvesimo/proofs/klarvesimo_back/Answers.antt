@@ -1,16 +1,15 @@
--- `klarvesimo::klarvesimo_back` loads the channel, and saves it where it went back. Assumes nothing.
-use Rattle.klarvesimo.proofs.Calling.{back_refused, back_done}
+-- `klarvesimo::klarvesimo_back` loads the channel, and concludes the call. Assumes nothing.
+use mathlib.Core.Path.{ap}
+use mathlib.Core.List.{[]}
+use Rattle.synth.specs.Calls.{back}
+use Rattle.klarvesimo.specs.Face.{gone, back_face}
+use Rattle.klarvesimo.proofs.Calling.{back_promised}
 use Rattle.klarvesimo.proofs.klarvesimo_back.Goals as goal
 
-pub returns-then-r-ne0 : goal.returns-then-r-ne0
-returns-then-r-ne0 c =
-    let a = c.args in
-    let found = rw c.kind_by.ensures at c.edition_at-found.ensures in
-    back_refused a.channel.now a.number _ c.load-l.ensures _ found c.go_back-r.ensures c.if-r-ne0.true
-
 pub returns : goal.returns
+unfolding back_face
 returns c =
     let a = c.args in
+    let is = c.load-l.ensures in
     let found = rw c.kind_by.ensures at c.edition_at-found.ensures in
-    back_done a.channel.now a.number _ c.load-l.ensures _ found c.go_back-r.ensures
-    c.if-r-ne0.false c.save_after.ensures
+    ap gone (c.conclude.ensures _ is (back a.number) [] [] (back_promised a.channel.now a.number _ is _ found c.go_back.ensures))

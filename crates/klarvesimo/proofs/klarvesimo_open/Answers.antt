@@ -3,4 +3,4 @@ use Rattle.klarvesimo.proofs.Calling.{opens}
 use Rattle.klarvesimo.proofs.klarvesimo_open.Goals as goal
 
 pub returns : goal.returns
-returns c = opens c.args.name.now c.open_channel-o.result _ c.open_channel-o.ensures c.save_opened.ensures
+returns c = opens c.args.name.now c.open_channel-opened.result _ c.open_channel-opened.ensures c.save_opened.ensures

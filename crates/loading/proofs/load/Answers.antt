@@ -7,6 +7,6 @@ pub returns : goal.returns
 returns c =
     let queued = rw c.kind_by-kind.ensures at c.load_queue-queue.ensures in
     let ws = c.args.ws.now in
-    let set = rw c.kind_by-kind.ensures at (first_set c.kind_by-kind.result ws c.edition_in-set.ensures) in
+    let set = rw c.kind_by-kind.ensures at (first_set c.kind_by-kind.result ws c.edition_in.ensures) in
     loads ws _ _ _ c.load_name-name.ensures queued
-    c.state_at-state.ensures c.last_at-last.ensures set
+    c.state_at-state.ensures c.last_at.ensures set

@@ -1,5 +1,4 @@
--- `loading::load_queue` meets its contract. The invariant of each loop: the bits of i numbers are gathered, and i of
--- what they say are loaded. The measure is what is left of the count. Assumes nothing.
+-- `loading::load_queue` meets its contract. Assumes nothing.
 use Prim.Native.Nat.{◌+◌, ◌≤◌}
 use mathlib.Core.Path.{◌≡◌, refl, ◌∙◌}
 use native.Mathlib.Nat.{le_trans}
@@ -20,40 +19,31 @@ counted c =
     rw c.count_where-count.ensures (count_most a.ws.now a.kind _ c.front_fits-fits.ensures)
 
 pub loop-i-init : goal.loop-i-init
-loop-i-init c =
-    let a = c.args in
-    (omega arith, le_trans (counted (goal.at.loop-i-init c).After-count_where-count) (most_16 a.kind), refl, gathered_none a.ws.now _ (omega arith))
+loop-i-init c = record { long = refl; gathered = gathered_none c.args.ws.now _ (omega arith) }
 
 pub loop-i-preserved : goal.loop-i-preserved
 loop-i-preserved c =
-    let ws = c.args.ws.now in
+    let a = c.args in
     let l = c.loop-i in
-    let inv = l.invariant in
-    (omega arith, inv.1, length-set l.numbers l.i _ ∙ inv.2, gathered_more ws l.numbers l.bits l.i _ (omega arith) (λ t. refl) inv.3)
+    let few = le_trans (counted (goal.at.loop-i-preserved c).After-count_where-count) (most_16 a.kind) in record {
+      long = length-set l.numbers l.i _ ∙ l.invariant.long;
+      gathered = gathered_more a.ws.now l.numbers l.bits l.i _ (omega arith) (λ t. refl) l.invariant.gathered;
+    }
 
 pub loop-j-init : goal.loop-j-init
-loop-j-init c =
-    let a = c.args in (
-      omega arith,
-      rw c.threshold_count-levels.ensures (thresholds_8 a.kind c.count_where-count.result (counted (goal.at.loop-j-init c).After-count_where-count)),
-      refl,
-      λ z. refl,
-      leveled_none _ a.ws.now _,
-    )
+loop-j-init c = record { long = refl; none = λ z. refl; leveled = leveled_none _ c.args.ws.now _ }
 
 pub loop-j-preserved : goal.loop-j-preserved
 loop-j-preserved c =
-    let ws = c.args.ws.now in
-    let start = c.fits_below-entries_fit.result in
+    let a = c.args in
     let l = c.loop-j in
-    let inv = l.invariant in (
-      omega arith,
-      inv.1,
-      length-set l.thresholds l.j _ ∙ inv.2,
-      λ z. absurd (let y : l.j + 1 ≡ 0 = z in omega arith),
-      leveled_more start ws l.thresholds l.all_fit _ l.j _ (omega arith) c.fits_below-all_fit.ensures
-          (λ t. c.threshold_at.ensures t) inv.4,
-    )
+    let many = c.threshold_count-j-end in
+    let few : many.result ≤ 8 =
+    rw many.ensures (thresholds_8 a.kind c.count_where-count.result (counted (goal.at.loop-j-preserved c).After-count_where-count)) in record {
+      long = length-set l.thresholds l.j _ ∙ l.invariant.long;
+      none = λ z. absurd (let y : l.j + 1 ≡ 0 = z in omega arith);
+      leveled = leveled_more _ a.ws.now l.thresholds l.all_fit _ l.j _ (omega arith) refl (λ t. c.threshold_at.ensures t) l.invariant.leveled;
+    }
 
 pub returns : goal.returns
 returns c =
@@ -61,10 +51,9 @@ returns c =
     let l = c.loop-i in
     let m = c.loop-j in
     let count = c.count_where-count in
-    let end : l.i ≡ count.result = omega (arith, l.invariant.0, c.loop-i-test.false) in
-    let levels : m.j ≡ threshold_count a.kind count.result =
-    omega (arith, m.invariant.0, c.loop-j-test.false, c.threshold_count-levels.ensures) in
-    queue_part a.ws.now a.kind l.numbers m.thresholds c.count_loaded.result l.invariant.2 m.invariant.2 _
+    let end : l.i ≡ count.result = omega arith in
+    let levels : m.j ≡ threshold_count a.kind count.result = omega (arith, c.threshold_count-j-end.ensures) in
+    queue_part a.ws.now a.kind l.numbers m.thresholds c.count_where.result l.invariant.long m.invariant.long _
     c.front_fits-fits.ensures count.ensures
-    (rw end at l.invariant.3) (rw levels at m.invariant.4) (rw levels at m.invariant.3)
-    c.fits_below-entries_fit.ensures c.count_loaded.ensures
+    (rw end at l.invariant.gathered) (rw levels at m.invariant.leveled) (rw levels at m.invariant.none)
+    refl c.count_where.ensures

@@ -6,8 +6,7 @@ use Prim.Native.Nat.{ℕ}
 use lib.ListN.{take}
 use lib.Seq.{take-take, take-append-le}
 use native.Mathlib.Nat.{le_refl}
-use Rattle.framing.specs.Framing.{framing, refusal, frame_length}
-use Rattle.framing.specs.declared.Framing.TheVariants.{Frame}
+use Rattle.framing.specs.Framing.{Frame, framing, refusal, frame_length}
 use Rattle.framing.proofs.Frames.{length_there}
 use Rattle.framing.proofs.Theorems.FrameAlone.{frame_alone, more_bytes}
 use Rattle.message.specs.Reading.{reading, read_bytes}

@@ -14,9 +14,9 @@ use Rattle.lists.proofs.Scans.{same_so}
 use Rattle.readers.specs.Words.{line, words, number_of, is_request_id}
 use Rattle.readers.proofs.Cuts.{Cut, line_cut}
 use Rattle.readers.proofs.Words.{lacks, line_of}
-use Rattle.framing.specs.Framing.{framing}
-use Rattle.framing.specs.declared.Framing.{Framing}
-use Rattle.framing.specs.declared.Framing.TheVariants.{More, NoMessage, TooLong, TooShort, Frame}
+use Rattle.std.specs.Prelude.{Ok, Err}
+use Rattle.framing.specs.Framing.{Framing, Frame, framing}
+use Rattle.framing.specs.declared.NoFrame.TheVariants.{More, NoMessage, TooLong, TooShort}
 use Rattle.message.specs.Message.{Start, request, response, event, refused}
 use Rattle.message.specs.StartLines.{is_method_name, is_status, state_text, state_of, two_words, three_words, start_of}
 use Rattle.message.specs.StartLines.{Started, started, going_on, line_start, start_line}
@@ -153,11 +153,11 @@ module _ (s : List ℕ) (n : ℕ) where
   by_start a b k m f (started st at) g e = let d : ◌≡◌ {A = ℕ} 0 1 = cc in absurd (omega arith)
 
   means : (x : Framing) → framing s ≡ x → read_framed s x ≡ refused 5 n → Unstarted s n
-  means More f e = let d : ◌≡◌ {A = ℕ} 1 5 = cc in absurd (omega arith)
-  means NoMessage f e = let d : ◌≡◌ {A = ℕ} 2 5 = cc in absurd (omega arith)
-  means TooLong f e = let d : ◌≡◌ {A = ℕ} 3 5 = cc in absurd (omega arith)
-  means TooShort f e = let d : ◌≡◌ {A = ℕ} 4 5 = cc in absurd (omega arith)
-  means (Frame a b k m) f e = by_start a b k m f (start_line k (take m s)) refl e
+  means (Err More) f e = let d : ◌≡◌ {A = ℕ} 1 5 = cc in absurd (omega arith)
+  means (Err NoMessage) f e = let d : ◌≡◌ {A = ℕ} 2 5 = cc in absurd (omega arith)
+  means (Err TooLong) f e = let d : ◌≡◌ {A = ℕ} 3 5 = cc in absurd (omega arith)
+  means (Err TooShort) f e = let d : ◌≡◌ {A = ℕ} 4 5 = cc in absurd (omega arith)
+  means (Ok x) f e = by_start x.major x.minor x.opening x.length f (start_line x.opening (take x.length s)) refl e
 
   given : Unstarted s n → read_framed s (framing s) ≡ refused 5 n
   given (a, b, k, f, never) =

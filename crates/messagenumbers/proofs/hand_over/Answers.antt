@@ -1,44 +1,30 @@
 -- `messagenumbers::hand_over` meets its contract. Assumes nothing.
+use mathlib.Core.Path.{◌∙◌}
+use mathlib.Core.List.{append_assoc}
 use native.Mathlib.Omega.{arith}
-use Rattle.messagenumbers.proofs.Handing.{was_read, hand_short, hand_laid}
+use lib.ListN.{length-take}
+use Rattle.messagenumbers.proofs.Handing.{was_read}
 use Rattle.messagenumbers.proofs.hand_over.Goals as goal
 
-pub overflow_mul-count : goal.overflow_mul-count
-overflow_mul-count c =
+pub overflow_mul-places : goal.overflow_mul-places
+overflow_mul-places c =
     let a = c.args in
-    let r = c.read_header-h in
-    omega (arith, (was_read a.params a.f.now a.at a.major a.minor a.n _ _ r.ensures).few)
+    omega (arith, (was_read a.params a.f.now a.at _ _ _ c.read_header-read.ensures c.in-Some.is).few)
 
-pub overflow_add-count : goal.overflow_add-count
-overflow_add-count c =
+pub slice_bounds-places-end : goal.slice_bounds-places-end
+slice_bounds-places-end c =
     let a = c.args in
-    let r = c.read_header-h in
-    omega (arith, (was_read a.params a.f.now a.at a.major a.minor a.n _ _ r.ensures).few)
+    let r = was_read a.params a.f.now a.at _ _ _ c.read_header-read.ensures c.in-Some.is in
+    omega (arith, r.few, r.room)
 
-pub returns-then-out-count : goal.returns-then-out-count
-returns-then-out-count c =
+pub slice_bounds-hand-end-2 : goal.slice_bounds-hand-end-2
+slice_bounds-hand-end-2 c =
     let a = c.args in
-    let r = c.read_header-h in
-    hand_short a.params a.f.now a.at a.major a.minor a.n _ _ r.ensures a.out.now c.if-out-count.true
-
-pub overflow_mul-count-2 : goal.overflow_mul-count-2
-overflow_mul-count-2 c =
-    let a = c.args in
-    let r = c.read_header-h in
-    omega (arith, (was_read a.params a.f.now a.at a.major a.minor a.n _ _ r.ensures).few)
-
-pub put_places-requires : goal.put_places-requires
-put_places-requires c =
-    let a = c.args in
-    let r = c.read_header-h in
-    let w = was_read a.params a.f.now a.at a.major a.minor a.n _ _ r.ensures in
-    (omega (arith, w.few, w.room), omega (arith, w.few, w.room))
+    let r = was_read a.params a.f.now a.at _ _ _ c.read_header-read.ensures c.in-Some.is in
+    simp length-take (omega (arith, r.few, r.room))
 
 pub returns : goal.returns
 returns c =
     let a = c.args in
-    let r = c.read_header-h in
-    hand_laid a.params a.f.now a.at a.major a.minor a.n _ _ r.ensures a.out.now _ _
-    c.if-out-count.false
-    c.put_head.ensures
-    c.put_places.ensures
+    let r = was_read a.params a.f.now a.at _ _ _ c.read_header-read.ensures c.in-Some.is in
+    c.hand-2.ensures ∙ rw (r.numbers, c.from.ensures, append_assoc)

@@ -16,7 +16,7 @@ pub returns-then-active : goal.returns-then-active
 returns-then-active c = λ few v major minor fs told.
     let a = c.args in
     all_end a.state a.q v (asked major minor Method.BargeInOccurred a.id fs) told few (c.end.ensures few)
-    (barge_kills (with_queue a.state (list_of a.q) v) major minor a.id fs (ap (λ (e : Entry). e.kill) (sym c.active-active.ensures) ∙ c.if-active.true))
+    (barge_kills (with_queue a.state (list_of a.q) v) major minor a.id fs (ap (λ (e : Entry). e.kill) (sym c.active.ensures) ∙ c.if-active.true))
 
 pub returns : goal.returns
 returns c = λ few v major minor fs told.
@@ -24,4 +24,4 @@ returns c = λ few v major minor fs told.
     let w = with_queue a.state (list_of a.q) v in
     makes_success w (asked major minor Method.BargeInOccurred a.id fs) a.state a.q told Complete _ c.succeeded.ensures
     (rw c.list_none.ensures none_listed) refl
-    (barge_spares w major minor a.id fs (ap (λ (e : Entry). e.kill) (sym c.active-active.ensures) ∙ c.if-active.false))
+    (barge_spares w major minor a.id fs (ap (λ (e : Entry). e.kill) (sym c.active.ensures) ∙ c.if-active.false))

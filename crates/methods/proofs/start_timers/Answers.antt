@@ -1,25 +1,19 @@
 -- `methods::start_timers` goes by the state. Assumes nothing.
-use mathlib.Core.Path.{refl, sym, ◌∙◌}
+use mathlib.Core.Path.{refl}
 use Rattle.message.specs.declared.RequestState.TheVariants.{Complete}
 use Rattle.synth.specs.Channel.{with_queue}
 use Rattle.synth.specs.declared.Method.{Method}
 use Rattle.queue.specs.Queue.{list_of}
 use Rattle.queue.proofs.Queues.{none_listed}
 use Rattle.outcomes.specs.Outcomes.{asked}
-use Rattle.outcomes.proofs.Making.{makes_failed, makes_success}
-use Rattle.methods.proofs.Methods.{timers_idle, timers_busy}
+use Rattle.outcomes.proofs.Making.{makes_success}
+use Rattle.methods.proofs.Methods.{timers_busy}
 use Rattle.methods.proofs.start_timers.Goals as goal
 
-pub returns-then-not-is_busy : goal.returns-then-not-is_busy
-returns-then-not-is_busy c = λ v major minor fs told.
-    let a = c.args in
-    makes_failed v (asked major minor Method.StartInputTimers a.id fs) a.state a.q 402 c.not_valid_in_state.ensures c.failed.ensures
-    (timers_idle (with_queue a.state (list_of a.q) v) major minor a.id fs (sym c.is_busy.ensures ∙ c.if-not-is_busy.true))
-
 pub returns : goal.returns
-returns c = λ v major minor fs told.
+returns c = λ busy v major minor fs told.
     let a = c.args in
     let w = with_queue a.state (list_of a.q) v in
     makes_success w (asked major minor Method.StartInputTimers a.id fs) a.state a.q told Complete _ c.succeeded.ensures
     (rw c.list_none.ensures none_listed) refl
-    (timers_busy w major minor a.id fs (sym c.is_busy.ensures ∙ c.if-not-is_busy.false))
+    (timers_busy w major minor a.id fs busy)

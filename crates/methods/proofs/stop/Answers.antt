@@ -17,7 +17,7 @@ use Rattle.outcomes.specs.Outcomes.{asked}
 use Rattle.methods.proofs.Methods.{stop_legal, list_told, ignored_in_stop}
 use Rattle.methods.proofs.Stops.{all_stop}
 use Rattle.methods.proofs.stop.Goals as goal
-use Rattle.methods.proofs.stop.Goals.{After-meets-ignored, After-value-list}
+use Rattle.methods.proofs.stop.Goals.{After-meets-ignored, After-value}
 
 asked_ignored : (c : After-meets-ignored) (v : View) (major minor : ℕ) (fs : Fields (List ℕ)) → let a = c.args in
     Tells false a.f.now a.h fs → c.meets-ignored.result ≡ ignores_any (asked major minor Method.Stop a.id fs)
@@ -25,22 +25,22 @@ asked_ignored c v major minor fs told =
     let a = c.args in
     c.meets-ignored.ensures ∙ ignored_in_stop v major minor a.id fs a.f.now a.h told
 
-asked_list : (c : After-value-list) (v : View) (major minor : ℕ) (fs : Fields (List ℕ)) → let a = c.args in
-    Tells false a.f.now a.h fs → given_of a.f.now c.value-list.result ≡ acting ActiveRequestIdList (asked major minor Method.Stop a.id fs)
+asked_list : (c : After-value) (v : View) (major minor : ℕ) (fs : Fields (List ℕ)) → let a = c.args in
+    Tells false a.f.now a.h fs → given_of a.f.now c.value.result ≡ acting ActiveRequestIdList (asked major minor Method.Stop a.id fs)
 asked_list c v major minor fs told =
     let a = c.args in
-    ap (given_of a.f.now) c.value-list.ensures ∙ list_told v major minor a.id fs a.f.now a.h told
+    ap (given_of a.f.now) c.value.ensures ∙ list_told v major minor a.id fs a.f.now a.h told
 
-pub returns-in-Nothing : goal.returns-in-Nothing
-returns-in-Nothing c = λ few v major minor fs told.
+pub returns-in_default : goal.returns-in_default
+returns-in_default c = λ few v major minor fs told.
     let a = c.args in
-    let said = asked_list (goal.at.returns-in-Nothing c).After-value-list v major minor fs told in
-    all_stop a.state a.q v (asked major minor Method.Stop a.id fs) (asked_ignored (goal.at.returns-in-Nothing c).After-meets-ignored v major minor fs told) few (c.end.ensures few)
-    (stop_legal (with_queue a.state (list_of a.q) v) major minor a.id fs none (ap (given_of a.f.now) (sym c.in-Nothing.is) ∙ said) refl)
+    let said = asked_list (goal.at.returns-in_default c).After-value v major minor fs told in
+    all_stop a.state a.q v (asked major minor Method.Stop a.id fs) (asked_ignored (goal.at.returns-in_default c).After-meets-ignored v major minor fs told) few (c.end.ensures few)
+    (stop_legal (with_queue a.state (list_of a.q) v) major minor a.id fs none (ap (given_of a.f.now) (sym c.in_default.is) ∙ said) refl)
 
-pub returns-in-At : goal.returns-in-At
-returns-in-At c = λ few v major minor fs told.
+pub returns : goal.returns
+returns c = λ few v major minor fs told.
     let a = c.args in
-    let said = asked_list (goal.at.returns-in-At c).After-value-list v major minor fs told in
+    let said = asked_list (goal.at.returns c).After-value v major minor fs told in
     c.stop_named.ensures few v major minor fs
-    (asked_ignored (goal.at.returns-in-At c).After-meets-ignored v major minor fs told, ap (λ v. some (joined v)) c.part.ensures ∙ ap (given_of a.f.now) (sym c.in-At.is) ∙ said)
+    (asked_ignored (goal.at.returns c).After-meets-ignored v major minor fs told, ap (λ v. some (joined v)) c.part.ensures ∙ ap (given_of a.f.now) (sym c.in-Some.is) ∙ said)

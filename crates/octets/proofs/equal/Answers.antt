@@ -1,6 +1,6 @@
 -- `octets::equal` meets its contract. The loop's invariant: the texts are of one length, and what is left of them
 -- decides. Assumes nothing.
-use mathlib.Core.Path.{refl, sym, ◌∙◌}
+use mathlib.Core.Path.{sym, ◌∙◌}
 use native.Mathlib.Omega.{arith}
 use Rattle.octets.proofs.Texts.{same_lengths}
 use Rattle.octets.proofs.Packed.{packed_stop, packed_step}
@@ -8,9 +8,6 @@ use Rattle.octets.proofs.equal.Goals as goal
 
 pub returns-then-a-b : goal.returns-then-a-b
 returns-then-a-b c = let a = c.args in sym (same_lengths a.a.now a.b.now c.if-a-b.true)
-
-pub loop-i-init : goal.loop-i-init
-loop-i-init c = (omega arith, c.if-a-b.false, refl)
 
 pub returns-then-word : goal.returns-then-word
 returns-then-word c = let a = c.args in
@@ -25,15 +22,6 @@ loop-i-preserved c = let a = c.args in
       omega arith,
       l.invariant.1,
       l.invariant.2
-          ∙ packed_step a.a.now a.b.now
-          (λ i. omega (arith, c.shared_slice_known-1.given i))
-          (λ i. omega (arith, c.shared_slice_known-2-1.given i)) 8 l.i
+          ∙ packed_step a.a.now a.b.now (λ i. omega (arith, c.type_inv.a i)) (λ i. omega (arith, c.type_inv.b i)) 8 l.i
           (omega arith) (omega arith) e,
     )
-
-pub equal_by_four-requires : goal.equal_by_four-requires
-equal_by_four-requires c = let l = c.loop-i in (l.invariant.1, l.invariant.0)
-
-pub returns : goal.returns
-returns c = let l = c.loop-i in
-    c.equal_by_four.ensures ∙ sym l.invariant.2

@@ -1,15 +1,9 @@
--- `output::put_cancelled` meets its contract. The invariant: the events of the first j ids are written from `at` to p.
--- Assumes nothing.
-use mathlib.Core.Path.{◌≡◌}
-use Prim.Native.Nat.{◌-◌, ◌≤◌}
-use lib.ListN.{length, take}
+-- `output::put_cancelled` meets its contract. The invariant: the events so far are written from `at` to p. Assumes nothing.
+use lib.ListN.{take}
 use Rattle.writers.specs.Buffer.{Wrote}
 use Rattle.answer.specs.declared.Kind.{Kind}
 use Rattle.sizes.proofs.Events.{cancelled}
 use Rattle.output.proofs.put_cancelled.Given as goal
 
-abbrev pub invariant-loop-j : goal.invariant-loop-j
-invariant-loop-j l = (l.j ≤ length l.ids) × Wrote l.initial.out l.at (cancelled Kind.Recognizer l.name (take l.j l.ids)) l.out l.p × (length l.out ≡ length l.initial.out)
-
-abbrev pub decreases-loop-j : goal.decreases-loop-j
-decreases-loop-j l = length l.ids - l.j
+abbrev pub invariant-loop-id : goal.invariant-loop-id
+invariant-loop-id l = Wrote l.initial.out l.at (cancelled Kind.Recognizer l.name (take l.id-index l.ids)) l.out l.p

@@ -1,6 +1,6 @@
 -- `params::act`: 403 before all, then by the method. Assumes nothing.
 use Prim.Native.Nat.{ℕ}
-use mathlib.Core.Path.{◌≡◌, sym, ap, subst, ◌∙◌}
+use mathlib.Core.Path.{◌≡◌, sym, ap, subst, ◌∙◌, refl}
 use mathlib.Core.Bool.{Bool, true, false, not}
 use mathlib.Core.List.{List}
 use Rattle.message.specs.Message.{Fields}
@@ -38,7 +38,7 @@ returns-then-meets c = λ e v of now major minor fs told.
     let a = c.args in
     plainly c.plain.ensures
     (makes_failed v (asked major minor a.m a.id fs) a.state a.q 403
-    c.unsupported_field.ensures c.failed.ensures
+    refl c.failed.ensures
     (forbidden v a.state a.q a.kind of major minor a.id fs a.m e
     (not-true _ (barred (goal.at.returns-then-meets c).After-meets fs told ∙ c.if-meets.true))))
 

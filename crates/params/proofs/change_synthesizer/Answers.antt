@@ -1,38 +1,39 @@
 -- `params::change_synthesizer` takes the two settings of a synthesizer. Assumes nothing.
-use mathlib.Core.Path.{◌≡◌, sym, ap, ap₂, ◌∙◌}
-use Rattle.answer.specs.declared.Kind.{Kind}
+use mathlib.Core.Path.{◌≡◌, refl, ap, ◌∙◌}
+use borrow.Author.Rules.{rules}
+use Rattle.synth.specs.Settings as S
 use Rattle.synth.specs.Settings.{kill_on_barge_in, fetch_timeout}
 use Rattle.values.specs.Values.{given_of}
-use Rattle.params.specs.Steps.{ChangesTo}
-use Rattle.params.specs.declared.Changed.{Changed}
-use Rattle.params.specs.declared.Taken.{Taken}
-use Rattle.params.proofs.Changing.{taken_for, with_two, synthesizer_changes}
+use Rattle.params.proofs.Taking.{took}
+use Rattle.params.proofs.Changing.{taken_for, due, two_taken}
 use Rattle.params.proofs.change_synthesizer.Goals as goal
-use Rattle.params.proofs.change_synthesizer.Goals.{After-take-fetch_taken}
+use Rattle.params.proofs.change_synthesizer.Goals.{After-take, After-take-2}
 
-abbrev by : After-take-fetch_taken → Taken → Taken → Changed
-by c kill fetch = with_two kill fetch c.before.before.before.before.before.args.set
-
--- an edition with what both calls took
-changes : (c : After-take-fetch_taken) (x : Changed) → by c c.take-kill_taken.result c.take-fetch_taken.result ≡ x
-    → let a = c.args in
-    ChangesTo Kind.Synthesizer a.set a.f.now a.h x
-changes c x e =
-    λ major minor id fs told stand.
+kill : (c : After-take) → let a = c.args in c.take.result ≡ due a.f.now a.h a.set kill_on_barge_in
+kill c =
     let a = c.args in
-    let kill = c.before.before in
-    sym e
-    ∙ ap₂ (by c)
-    (kill.take-kill_taken.ensures
-    ∙ ap (λ g. taken_for kill_on_barge_in (given_of a.f.now g) a.set) kill.value-kill_given.ensures)
-    (c.take-fetch_taken.ensures ∙ ap (λ g. taken_for fetch_timeout (given_of a.f.now g) a.set) c.value-fetch_given.ensures)
-    ∙ synthesizer_changes a.f.now a.h fs told major minor id stand a.set
+    took S.flag _ _ _ c.take.ensures (λ p h. search rules)
+    ∙ ap (λ g. taken_for kill_on_barge_in (given_of a.f.now g) a.set) c.value-kill_given.ensures
 
-pub returns-in-Illegal : goal.returns-in-Illegal
-returns-in-Illegal c = changes (goal.at.returns-in-Illegal c).After-take-fetch_taken _ (ap (λ x. by (goal.at.returns-in-Illegal c).After-take-fetch_taken x c.take-fetch_taken.result) c.in-Illegal.is)
+fetch : (c : After-take-2) → let a = c.args in c.take-2.result ≡ due a.f.now a.h a.set fetch_timeout
+fetch c =
+    let a = c.args in
+    took S.millis _ _ _ c.take-2.ensures (λ p h. search rules)
+    ∙ ap (λ g. taken_for fetch_timeout (given_of a.f.now g) a.set) c.value-fetch_given.ensures
 
-pub returns-in-Illegal-fetch_taken : goal.returns-in-Illegal-fetch_taken
-returns-in-Illegal-fetch_taken c = changes (goal.at.returns-in-Illegal-fetch_taken c).After-take-fetch_taken _ (ap₂ (by (goal.at.returns-in-Illegal-fetch_taken c).After-take-fetch_taken) c.in-As.is c.in-Illegal-fetch_taken.is)
+pub returns-in_err-kill : goal.returns-in_err-kill
+returns-in_err-kill c =
+    let a = c.args in
+    two_taken a.f.now a.h a.set (search rules) (kill (goal.at.returns-in_err-kill c).After-take) refl
 
-pub returns-in-As-fetch_taken : goal.returns-in-As-fetch_taken
-returns-in-As-fetch_taken c = changes (goal.at.returns-in-As-fetch_taken c).After-take-fetch_taken _ (ap₂ (by (goal.at.returns-in-As-fetch_taken c).After-take-fetch_taken) c.in-As.is c.in-As-fetch_taken.is)
+pub returns-in_err-fetch : goal.returns-in_err-fetch
+returns-in_err-fetch c =
+    let a = c.args in
+    let at = goal.at.returns-in_err-fetch c in
+    two_taken a.f.now a.h a.set (search rules) (kill at.After-take) (fetch at.After-take-2)
+
+pub returns : goal.returns
+returns c =
+    let a = c.args in
+    let at = goal.at.returns c in
+    two_taken a.f.now a.h a.set (search rules) (kill at.After-take) (fetch at.After-take-2)

@@ -8,5 +8,5 @@ pub returns : goal.returns
 returns c = λ set f v of now major minor fs (told, stand).
     let a = c.args in
     get_told v a.state a.q a.kind of major minor a.id fs stand
-    (c.asked_by-asked.ensures ∙ told_named f a.h fs told a.kind)
-    c.list_none.ensures c.succeeded-outcome.ensures
+    (c.asked_by.ensures ∙ told_named f a.h fs told a.kind)
+    c.list_none.ensures c.succeeded.ensures

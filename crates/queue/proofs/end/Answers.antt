@@ -1,6 +1,5 @@
--- `queue::end` deals the entries out by their bits. The loop's invariant: those kept, and what is to be kept from place i on, are
--- all that remain; the same of the ids listed. The measure is what is left of the count. Assumes nothing.
-use mathlib.Core.Path.{refl, sym, ap, ◌∙◌}
+-- `queue::end` deals the entries out by their bits. Assumes nothing.
+use mathlib.Core.Path.{sym, ap, ◌∙◌}
 use mathlib.Core.Bool.{true, false}
 use mathlib.Core.List.{◌++◌}
 use native.Mathlib.Omega.{arith}
@@ -19,62 +18,51 @@ returns-then-count-gt-MOST c = record {
   value = λ many. λ i. record { listed = c.list_none-listed.ensures i; queue = c.args.q };
 }
 
-pub loop-i-init : goal.loop-i-init
-loop-i-init c =
-    let q = c.args.q in
-    (omega arith, c.if-count-gt-MOST.false, omega arith, omega arith, refl, refl, refl, numbers_16 q _ c.well_formed.0, levels_16 q _ c.well_formed.0, refl, refl)
-
 pub loop-i-preserved-then-ends : goal.loop-i-preserved-then-ends
 loop-i-preserved-then-ends c =
-    let args = c.args in
+    let mask = c.args.mask in
+    let q = c.args.q in
     let l = c.loop-i in
     let inv = l.invariant in
-    let q = args.q in
     let set = sym c.bit-ends.ensures ∙ c.if-ends.true in
-    let many = inv.8 ∙ sym inv.7 in (
-      omega arith,
-      inv.1,
-      omega arith,
-      omega arith,
-      inv.4,
-      inv.5,
-      search rules,
-      inv.7,
-      inv.8,
-      inv.9 ∙ ap (λ r. take l.left (entries_of l.numbers l.thresholds) ++ r) (passed args.mask q.numbers q.thresholds many q.count l.i l.gone (omega arith) (omega arith) false (rw set)),
-      rw c.id_in.ensures (inv.10 ∙ id_listed args.mask q.numbers q.thresholds many q.count l.i l.gone (omega arith) (omega arith) l.ids (omega arith) set),
-    )
+    let olds = numbers_16 q _ c.well_formed.0 in
+    let many = levels_16 q _ c.well_formed.0 ∙ sym olds in record {
+      room = omega arith;
+      listed = omega arith;
+      long = inv.long;
+      as_many = inv.as_many;
+      places = search rules;
+      kept = inv.kept ∙ ap (λ r. take l.left (entries_of l.numbers l.thresholds) ++ r) (passed mask q.numbers q.thresholds many q.count l.i l.gone (omega arith) (omega arith) false (rw set));
+      ended = rw c.id_in.ensures (inv.ended ∙ id_listed mask q.numbers q.thresholds many q.count l.i l.gone (omega arith) (omega arith) l.ids (omega arith) set);
+    }
 
 pub loop-i-preserved : goal.loop-i-preserved
 loop-i-preserved c =
-    let args = c.args in
+    let mask = c.args.mask in
+    let q = c.args.q in
     let l = c.loop-i in
     let inv = l.invariant in
-    let q = args.q in
     let clear = sym c.bit-ends.ensures ∙ c.if-ends.false in
-    let many = inv.8 ∙ sym inv.7 in (
-      omega arith,
-      inv.1,
-      omega arith,
-      omega arith,
-      search rules,
-      search rules,
-      inv.6,
-      inv.7,
-      inv.8,
-      inv.9 ∙ number_kept args.mask q.numbers q.thresholds many q.count l.i l.left (omega arith) (omega arith) l.numbers l.thresholds (inv.5 ∙ sym inv.4) (omega arith) clear,
-      inv.10 ∙ ap (λ r. take l.gone l.ids ++ ids_of r) (passed args.mask q.numbers q.thresholds many q.count l.i l.left (omega arith) (omega arith) true (rw clear)),
-    )
+    let olds = numbers_16 q _ c.well_formed.0 in
+    let many = levels_16 q _ c.well_formed.0 ∙ sym olds in record {
+      room = omega arith;
+      listed = omega arith;
+      long = search rules;
+      as_many = search rules;
+      places = inv.places;
+      kept = inv.kept ∙ number_kept mask q.numbers q.thresholds many q.count l.i l.left (omega arith) (omega arith) l.numbers l.thresholds (inv.as_many ∙ sym inv.long) (omega arith) clear;
+      ended = inv.ended ∙ ap (λ r. take l.gone l.ids ++ ids_of r) (passed mask q.numbers q.thresholds many q.count l.i l.left (omega arith) (omega arith) true (rw clear));
+    }
 
 pub returns : goal.returns
 returns c =
     let q = c.args.q in
     let mask = c.args.mask in
     let l = c.loop-i in
-    let few = l.invariant.1 in
+    let few = c.if-count-gt-MOST.false in
     let done = c.loop-i-test.false in
-    let rest = l.invariant.9 ∙ all_kept_lem mask (entries_in q) q.count l.i l.left done (entries_of l.numbers l.thresholds) in
-    let gone = sym (l.invariant.10 ∙ all_listed mask (entries_in q) q.count l.i l.gone done l.ids) in record {
+    let rest = l.invariant.kept ∙ all_kept_lem mask (entries_in q) q.count l.i l.left done (entries_of l.numbers l.thresholds) in
+    let gone = sym (l.invariant.ended ∙ all_listed mask (entries_in q) q.count l.i l.gone done l.ids) in record {
       ends = λ _. rw (within q few)
           (record {
             lists = record { shown = gone; counted = sym (length-take-le l.gone l.ids (omega arith)) ∙ ap length gone; few = omega arith };

@@ -8,7 +8,9 @@ use lib.ListN.{length, take, get_or}
 use Rattle.writers.specs.Buffer.{put}
 use Rattle.traces.specs.Traces.{IsFile, entry, part_of, recorded, finished, with_ending, Records, nothing, onward}
 use Rattle.traces.specs.declared.Recorded.{Recorded}
-use Rattle.traces.specs.declared.Finished.{Finished}
+use Rattle.std.specs.Prelude.{Result, Ok, Err}
+use Rattle.traces.specs.declared.Refusal.{Refusal}
+use Rattle.traces.specs.Refusals.{number_of}
 use Rattle.traces.proofs.Theorems.MessageN.{is_there_lem, nth}
 use Rattle.traces.proofs.Theorems.Recording.{record_numbers, finish_numbers}
 use Rattle.traces.proofs.Theorems.GivenBack.{is_file}
@@ -27,14 +29,23 @@ module _ (ms : List (List ℕ)) (out m : List ℕ) (used count : ℕ) (l : Recor
   abbrev After : RecordCall → Type 0
   After c = Keeps (joins c.number m ms) c.out c.trace
 
-  step : (r : Recorded) → recorded out used count m ≡ r → After (recorded_in (used ∷ count ∷ []) out used m r)
-  step (Recorded.Refused zero) e = absurd (omega (arith, record_numbers out used count m zero e))
-  step (Recorded.Refused (suc n)) e = record { used = used; count = count; is = refl; left = l }
-  step (Recorded.Left u c) e = record {
-    used = u;
-    count = c;
+  step : (r : Result Recorded Refusal) → recorded out used count m ≡ r
+      → After (recorded_in (used ∷ count ∷ []) out used m r)
+  step (Err r) e = record {
+    used = used;
+    count = count;
     is = refl;
-    left = onward ms out used count l m (put out used m) u c e refl;
+    left = joins_none (number_of r) (record_numbers out used count m r e);
+  }
+    where
+      joins_none : (n : ℕ) → 1 ≤ n → Records (joins n m ms) out used count
+      joins_none zero h = absurd (omega (arith, h))
+      joins_none (suc n) h = l
+  step (Ok t) e = record {
+    used = t.used;
+    count = t.count;
+    is = refl;
+    left = onward ms out used count l m (put out used m) t.used t.count e refl;
   }
 
   stepped : After (record_face out (used ∷ count ∷ []) m)
@@ -60,18 +71,18 @@ told f ms i k a b = record {
 }
 
 module _ (ms : List (List ℕ)) (out : List ℕ) (used count : ℕ) (l : Records ms out used count) (p n : ℕ) where
-  finish_by : (r : Finished) → finished out used count ≡ r → (c : FinishCall)
+  finish_by : (r : Result ℕ Refusal) → finished out used count ≡ r → (c : FinishCall)
       → c ≡ finished_as (p ∷ []) (with_ending out used r) r → c.number ≡ 0 → c.length ≡ n ∷ []
       → IsFile (take n c.out) ms
-  finish_by (Finished.Refused j) e c q z s =
-      let y : j ≡ 0 = sym (ap (λ (c : FinishCall). c.number) q) ∙ z in
-      absurd (omega (arith, finish_numbers out used count j e))
-  finish_by (Finished.File k) e c q z s =
+  finish_by (Err r) e c q z s =
+      let y : number_of r ≡ 0 = sym (ap (λ (c : FinishCall). c.number) q) ∙ z in
+      absurd (omega (arith, finish_numbers out used count r e))
+  finish_by (Ok k) e c q z s =
       let y : k ∷ [] ≡ n ∷ [] = sym (ap (λ (c : FinishCall). c.length) q) ∙ s in
       let x : k ≡ n = cc in
       let o : c.out ≡ with_ending out used (finished out used count) =
       ap (λ (c : FinishCall). c.out) q ∙ ap (with_ending out used) (sym e) in
-      subst (λ o. IsFile (take n o) ms) (sym o) (is_file ms out used count l n (e ∙ ap Finished.File x))
+      subst (λ o. IsFile (take n o) ms) (sym o) (is_file ms out used count l n (e ∙ ap Ok x))
 
 pub given_back : (ms : List (List ℕ)) (out : List ℕ) (used count : ℕ) → Calls ms out (used ∷ count ∷ [])
     → (p n : ℕ) (c : FinishCall) → c ≡ finish_face out used count (p ∷ []) → c.number ≡ 0 → c.length ≡ n ∷ []

@@ -6,22 +6,11 @@ use Rattle.answer.specs.declared.Kind.{Kind}
 use Rattle.sizes.proofs.Events.{all_none, all_length}
 use Rattle.sizes.proofs.complete_all_size.Goals as goal
 
-pub returns-then-ids-eq0 : goal.returns-then-ids-eq0
-returns-then-ids-eq0 c =
+pub returns-in_default : goal.returns-in_default
+returns-in_default c =
     let a = c.args in
-    omega (arith, ap length (all_none Kind.Recognizer a.name.now a.cause a.ids.now (omega arith)))
-
-pub returns-then-cap-first : goal.returns-then-cap-first
-returns-then-cap-first c =
-    let a = c.args in
-    omega (arith, all_length Kind.Recognizer a.name.now a.cause a.ids.now (omega arith))
-
-pub returns-then-cap-n : goal.returns-then-cap-n
-returns-then-cap-n c =
-    let a = c.args in
-    omega (arith, all_length Kind.Recognizer a.name.now a.cause a.ids.now (omega arith))
+    omega (arith, ap length (all_none Kind.Recognizer a.name.now a.cause a.ids.now c.in_default.ensures.cases))
 
 pub returns : goal.returns
 returns c =
-    let a = c.args in
-    omega (arith, all_length Kind.Recognizer a.name.now a.cause a.ids.now (omega arith))
+    grind (arith, all_length Kind.Recognizer c.args.name.now c.args.cause c.in-Some.ensures.cases.0)

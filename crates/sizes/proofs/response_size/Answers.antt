@@ -12,5 +12,5 @@ returns c =
     let name = a.name.now in
     let cap = length a.out.now in
     let list = length (fields_text (active_request_id_list a.ids.now)) in
-    rw (response_measured name a.a a.ids.now, ← c.words_size-words.ensures.0)
-    (saturated (35 + length name) _ list cap c.message_size.ensures c.list_size-list.ensures)
+    rw (response_measured name a.a a.ids.now, ← c.words_size.ensures.0)
+    (saturated (35 + length name) _ list cap c.message_size.ensures c.list_size.ensures)

@@ -1,10 +1,8 @@
 -- `speak::active_state` goes by the method. Assumes nothing.
 use mathlib.Core.Path.{◌≡◌, refl}
 use mathlib.Core.Bool.{true, false≢true}
-use mathlib.Core.List.{[], ◌∷◌}
-use types.Run.{miss}
 use Rattle.synth.specs.Channel.{View}
-use Rattle.synth.specs.Request.{Request, opens, is}
+use Rattle.synth.specs.Request.{Request, opens}
 use Rattle.synth.specs.States.{enter, act}
 use Rattle.synth.specs.declared.Method.{Method}
 use Rattle.synth.specs.declared.State.TheVariants.{Speaking}

@@ -8,17 +8,19 @@ use Rattle.outcomes.proofs.Making.{makes_failed}
 use Rattle.speak.proofs.Speaking.{unfit, fit}
 use Rattle.speak.proofs.enter.Goals as goal
 
-pub returns-in-Fails : goal.returns-in-Fails
-returns-in-Fails c = λ opened level now v of moment major minor fs told.
+pub returns-in-Err : goal.returns-in-Err
+returns-in-Err c = λ opened level now v of moment major minor fs told.
     let a = c.args in
     let w = with_queue a.state (list_of a.q) v in
+    let judged = c.content.ensures opened major minor a.e.id fs told.0 in
     makes_failed v (asked major minor a.m a.e.id fs) a.state a.q _ refl c.failed.ensures
-    (unfit w major minor a.m a.e.id fs _ (ap verdict_of (sym c.in-Fails.is) ∙ told.0))
+    (unfit w major minor a.m a.e.id fs _ (ap verdict_of (sym c.in-Err.is) ∙ judged))
 
-pub returns-in-Passes : goal.returns-in-Passes
-returns-in-Passes c = λ opened level now v of moment major minor fs told.
+pub returns : goal.returns
+returns c = λ opened level now v of moment major minor fs told.
     let a = c.args in
     let w = with_queue a.state (list_of a.q) v in
+    let judged = c.content.ensures opened major minor a.e.id fs told.0 in
     subst (Makes w c.join.result)
-    (sym (fit w major minor a.m a.e.id fs (ap verdict_of (sym c.in-Passes.is) ∙ told.0)))
+    (sym (fit w major minor a.m a.e.id fs (ap verdict_of (sym c.in_default.is) ∙ judged)))
     (c.join.ensures opened level now v of moment major minor fs (told.1, told.2))

@@ -1,6 +1,6 @@
 -- `speak::join` goes by the room and the state. Assumes nothing.
 use Prim.Native.Nat.{◌≤◌, ◌<◌}
-use mathlib.Core.Path.{◌≡◌, sym, ap, ◌∙◌}
+use mathlib.Core.Path.{◌≡◌, sym, ap, ◌∙◌, refl}
 use mathlib.Core.Bool.{false}
 use native.Mathlib.Omega.{arith}
 use mathlib.Core.List.{List, [], ◌∷◌, ◌++◌}
@@ -21,6 +21,7 @@ use Rattle.outcomes.specs.Outcomes.{asked}
 use Rattle.outcomes.proofs.Making.{answer_is, makes_failed, makes_success}
 use Rattle.speak.proofs.Speaking.{entering, full, becomes_active, waits}
 use Rattle.speak.proofs.join.Goals as goal
+use Rattle.speak.proofs.join.Goals.{then-is_busy, else-is_busy}
 
 -- the queue with the entry behind it
 with_entry : (k : Kind) (q : Queue) {e f : Entry} {l : List Entry} → leb (most k) (length (list_of q)) ≡ false
@@ -33,24 +34,9 @@ with_entry k q few joined level e =
 pub returns-then-is_full : goal.returns-then-is_full
 returns-then-is_full c = λ opened level now v of moment major minor fs told.
     let a = c.args in
-    makes_failed v (asked major minor a.m a.e.id fs) a.state a.q 407 c.operation_failed.ensures c.failed.ensures
+    makes_failed v (asked major minor a.m a.e.id fs) a.state a.q 407 refl c.failed.ensures
     (full (with_queue a.state (list_of a.q) v) major minor a.m a.e.id fs opened a.kind of
     (sym c.is_full.ensures ∙ c.if-is_full.true))
-
-pub returns-then-is_busy : goal.returns-then-is_busy
-returns-then-is_busy c = λ opened level now v of moment major minor fs told.
-    let a = c.args in
-    let w = with_queue a.state (list_of a.q) v in
-    let r = asked major minor a.m a.e.id fs in
-    let few = sym c.is_full.ensures ∙ c.if-is_full.false in
-    let enters = entering a.m opened in
-    let answered = answer_is c.pending.ensures c.success-success.ensures in
-    makes_success w r a.state c.join-queue.result told.0 Pending no_ids
-    (λ i. record { answer = answered i; listed = c.list_none-listed.ensures i; state = a.state; queue = c.join-queue.result })
-    none_listed (with_entry a.kind a.q few c.join-queue.ensures.result_value level
-    (told.1 ∙ ap (λ x. entry_of x r) (sym moment)))
-    (waits w major minor a.m a.e.id fs opened a.kind of few enters.0 (enters.1 w r)
-    (sym c.is_busy.ensures ∙ c.if-is_busy.true))
 
 pub returns : goal.returns
 returns c = λ opened level now v of moment major minor fs told.
@@ -58,10 +44,31 @@ returns c = λ opened level now v of moment major minor fs told.
     let w = with_queue a.state (list_of a.q) v in
     let r = asked major minor a.m a.e.id fs in
     let few = sym c.is_full.ensures ∙ c.if-is_full.false in
-    let answered = answer_is c.in_progress.ensures c.success-success.ensures in
-    makes_success w r c.active_state.result c.join-queue.result told.0 InProgress no_ids
-    (λ i. record { answer = answered i; listed = c.list_none-listed.ensures i; state = c.active_state.result; queue = c.join-queue.result })
-    none_listed (with_entry a.kind a.q few c.join-queue.ensures.result_value level
-    (told.1 ∙ ap (λ x. entry_of x r) (sym moment)))
-    (becomes_active w major minor a.m a.e.id fs opened a.kind of few c.active_state.result (c.active_state.ensures opened w r)
-    (sym c.is_busy.ensures ∙ c.if-is_busy.false))
+    let joined = with_entry a.kind a.q few c.join.ensures.result_value level
+    (told.1 ∙ ap (λ x. entry_of x r) (sym moment)) in
+    elim c.if-is_busy.branch [
+      | then-is_busy b ↦
+          let enters = entering a.m opened in
+          rw b.state-is (makes_success w r a.state c.join.result told.0 Pending no_ids
+          (λ i. record {
+            answer = answer_is b.pending.ensures c.success-success.ensures i;
+            listed = c.list_none.ensures i;
+            state = a.state;
+            queue = c.join.result;
+          })
+          none_listed joined
+          (waits w major minor a.m a.e.id fs opened a.kind of few enters.0 (enters.1 w r)
+          (sym c.is_busy.ensures ∙ b.if-is_busy.true)))
+      | else-is_busy b ↦
+          let active = b.active_state.result in
+          rw b.state-is (makes_success w r active c.join.result told.0 InProgress no_ids
+          (λ i. record {
+            answer = answer_is b.in_progress.ensures c.success-success.ensures i;
+            listed = c.list_none.ensures i;
+            state = active;
+            queue = c.join.result;
+          })
+          none_listed joined
+          (becomes_active w major minor a.m a.e.id fs opened a.kind of few active (b.active_state.ensures opened w r)
+          (sym c.is_busy.ensures ∙ b.if-is_busy.false)))
+    ]

@@ -6,7 +6,7 @@ use mathlib.Core.List.{List}
 use Rattle.message.specs.Message.{Fields}
 use Rattle.message.specs.declared.Known.TheVariants.{KillOnBargeIn}
 use Rattle.synth.specs.Channel.{View, with_queue}
-use Rattle.synth.specs.Request.{acting, ignores_any}
+use Rattle.synth.specs.Request.{acting}
 use Rattle.synth.specs.States.{kill_set}
 use Rattle.synth.specs.declared.Method.{Method}
 use Rattle.queue.specs.Queue.{list_of}
@@ -14,43 +14,40 @@ use Rattle.values.specs.Values.{given_of, kill_of}
 use Rattle.request.specs.Telling.{Tells, value_by}
 use Rattle.outcomes.specs.Outcomes.{asked, Makes}
 use Rattle.outcomes.proofs.Making.{makes_failed}
-use Rattle.speak.proofs.Speaking.{kill_given, kill_illegal, set_few, speak_illegal, speak_legal, kill_told, speak_entry, ignored_in_speak}
+use Rattle.speak.proofs.Speaking.{kill_given, kill_illegal, set_few, speak_illegal, speak_legal, kill_told}
+use Rattle.speak.proofs.Speaking.{speak_entry, ignored_in_speak}
 use Rattle.speak.proofs.speak.Goals as goal
-use Rattle.speak.proofs.speak.Goals.{After-kill_of-flag, After-meets-ignored}
+use Rattle.speak.proofs.speak.Goals.{After-kill_of}
 
-asked_ignored : (c : After-meets-ignored) (v : View) (major minor : ℕ) (fs : Fields (List ℕ)) → let a = c.args in
-    Tells false a.f.now a.h fs → c.meets-ignored.result ≡ ignores_any (asked major minor Method.Speak a.id fs)
-asked_ignored c v major minor fs told =
-    let a = c.args in
-    c.meets-ignored.ensures ∙ ignored_in_speak v major minor a.id fs a.f.now a.h told
-
-asked_value : (c : After-kill_of-flag) (v : View) (major minor : ℕ) (fs : Fields (List ℕ))
+asked_value : (c : After-kill_of) (v : View) (major minor : ℕ) (fs : Fields (List ℕ))
     → let a = c.args in
     Tells false a.f.now a.h fs
-    → c.kill_of-flag.result ≡ kill_of (kill_set a.set.kill) (acting KillOnBargeIn (asked major minor Method.Speak a.id fs))
+    → c.kill_of.result ≡ kill_of (kill_set a.set.kill) (acting KillOnBargeIn (asked major minor Method.Speak a.id fs))
 asked_value c v major minor fs told =
     let a = c.args in
-    c.kill_of-flag.ensures
-    ∙ ap (λ g. kill_of c.kill_set-otherwise.result (given_of a.f.now g)) c.value.ensures
-    ∙ ap (λ x. kill_of x (given_of a.f.now (value_by a.h KillOnBargeIn))) c.kill_set-otherwise.ensures
+    c.kill_of.ensures
+    ∙ ap (λ g. kill_of c.kill_set.result (given_of a.f.now g)) c.value-given.ensures
+    ∙ ap (λ x. kill_of x (given_of a.f.now (value_by a.h KillOnBargeIn))) c.kill_set.ensures
     ∙ ap (kill_of (kill_set a.set.kill)) (kill_told v major minor a.id fs a.f.now a.h told)
 
-pub returns-in-Illegal : goal.returns-in-Illegal
-returns-in-Illegal c = λ fit v of moment major minor fs told.
+pub returns-in_default : goal.returns-in_default
+returns-in_default c = λ fit v of moment major minor fs told.
     let a = c.args in
     let r = asked major minor Method.Speak a.id fs in
-    makes_failed v r a.state a.q 404 c.illegal_value.ensures c.failed.ensures
+    let value = asked_value (goal.at.returns-in_default c).After-kill_of v major minor fs told in
+    makes_failed v r a.state a.q 404 refl c.failed.ensures
     (speak_illegal (with_queue a.state (list_of a.q) v) major minor a.id fs
-    (kill_illegal _ (acting KillOnBargeIn r) (sym c.in-Illegal.is ∙ asked_value (goal.at.returns-in-Illegal c).After-kill_of-flag v major minor fs told)))
+    (kill_illegal _ (acting KillOnBargeIn r) (sym c.in_default.is ∙ value)))
 
-pub returns-in-Of : goal.returns-in-Of
-returns-in-Of c = λ fit v of moment major minor fs told.
+pub returns : goal.returns
+returns c = λ fit v of moment major minor fs told.
     let a = c.args in
     let w = with_queue a.state (list_of a.q) v in
+    let value = asked_value (goal.at.returns c).After-kill_of v major minor fs told in
     let r = asked major minor Method.Speak a.id fs in
-    let said = kill_given _ a.set.kill (acting KillOnBargeIn r) (sym c.in-Of.is ∙ asked_value (goal.at.returns-in-Of c).After-kill_of-flag v major minor fs told) in
-    let judged = c.content-content.ensures refl major minor a.id fs told in
+    let said = kill_given _ a.set.kill (acting KillOnBargeIn r) (sym c.in-Some.is ∙ value) in
     let few : c.level_set-threshold.result ≤ 1000000 = rw c.level_set-threshold.ensures (set_few a.kind a.set fit) in
+    let ignored = c.meets-ignored.ensures ∙ ignored_in_speak v major minor a.id fs a.f.now a.h told in
     subst (Makes w c.enter.result) (sym (speak_legal w major minor a.id fs said.0))
     (c.enter.ensures refl few a.set v of moment major minor fs
-    (judged, asked_ignored (goal.at.returns-in-Of c).After-meets-ignored v major minor fs told, speak_entry w major minor a.id fs a.set _ _ said.1 c.level_set-threshold.ensures))
+    (told, ignored, speak_entry w major minor a.id fs a.set _ _ said.1 c.level_set-threshold.ensures))

@@ -1,35 +1,14 @@
--- `startwords::text` meets its contract. The loop's invariant: the text stands at the start where the rest of it stands here.
--- Assumes nothing.
-use mathlib.Core.Bool.{true, false}
-use mathlib.Core.Path.{refl, sym, ◌∙◌}
-use borrow.Author.Rules.{rules}
-use borrow.Author.Tests.{eq-eqb, ne_eqb}
-use Rattle.startwords.proofs.Positions.{text_done, text_end, text_here}
+-- `startwords::text` meets its contract. Assumes nothing.
+use mathlib.Core.Path.{sym, ◌∙◌}
+use native.Mathlib.Omega.{arith}
+use borrow.Author.Tests.{lt-leb}
+use Rattle.startwords.proofs.Positions.{begins_same, begins_short}
 use Rattle.startwords.proofs.text.Goals as goal
 
-pub loop-k-init : goal.loop-k-init
-loop-k-init c = (search rules, refl)
+pub returns-then-t-rest-clause-value : goal.returns-then-t-rest-clause-value
+returns-then-t-rest-clause-value c = let a = c.args in c.equal.ensures ∙ sym (begins_same a.t.now a.rest.now (omega arith))
 
-pub returns-then-f-i : goal.returns-then-f-i
-returns-then-f-i c =
-    let l = c.loop-k in
+pub returns-else-t-rest-clause-value : goal.returns-else-t-rest-clause-value
+returns-else-t-rest-clause-value c =
     let a = c.args in
-    sym (l.invariant.1 ∙ text_end a.f.now a.t.now l.i l.k (search rules) (search rules))
-
-pub returns-then-f-i-2 : goal.returns-then-f-i-2
-returns-then-f-i-2 c =
-    let l = c.loop-k in
-    let a = c.args in
-    sym (l.invariant.1 ∙ text_here a.f.now a.t.now l.i l.k (search rules) false (search rules) (ne_eqb _ _ c.if-f-i-2.true))
-
-pub loop-k-preserved : goal.loop-k-preserved
-loop-k-preserved c =
-    let l = c.loop-k in
-    let a = c.args in
-    (search rules, l.invariant.1 ∙ text_here a.f.now a.t.now l.i l.k (search rules) true (search rules) (eq-eqb _ _ c.if-f-i-2.false))
-
-pub returns : goal.returns
-returns c =
-    let l = c.loop-k in
-    let a = c.args in
-    sym (l.invariant.1 ∙ text_done a.f.now a.t.now l.i l.k (search rules))
+    lt-leb _ _ (omega arith) ∙ sym (begins_short a.t.now a.rest.now (omega arith))

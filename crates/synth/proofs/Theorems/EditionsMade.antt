@@ -7,6 +7,7 @@ use mathlib.Core.Option.{some}
 use mathlib.Core.List.{List, [], ◌∷◌, map}
 use mathlib.Core.Logic.{◌⊎◌, inl, inr}
 use lib.Ieee.{Float}
+use Rattle.std.specs.Prelude.{Some}
 use Rattle.lists.specs.Lists.{elem}
 use Rattle.lists.proofs.Tests.{choose}
 use Rattle.message.specs.Reading.{read_bytes}
@@ -24,7 +25,6 @@ use Rattle.synth.specs.declared.State.TheVariants.{Speaking, Paused, Recognizing
 use Rattle.synth.specs.declared.Method.{Method}
 use Rattle.synth.specs.declared.Entry.{Entry}
 use Rattle.synth.specs.declared.Edition.{Edition}
-use Rattle.synth.specs.declared.LastId.TheVariants.{Seen}
 use Rattle.synth.proofs.Nexts.{Next, same, judged, ended, gone, next_of}
 
 -- one more in front, and of all the newest four
@@ -77,7 +77,7 @@ module _ (v : View) (r : Request) where
   after_late_lem (fails status) = inl refl
 
 after_early_lem : (v : View) (r : Request) (l : Verdict) → Made v r r.method (after_early l v r)
-after_early_lem v r passes = let seen : View = with_last (Seen r.id) v in after_late_lem seen r (late seen r)
+after_early_lem v r passes = let seen : View = with_last (Some r.id) v in after_late_lem seen r (late seen r)
 after_early_lem v r (fails status) = inl refl
 
 judgement : (v : View) (r : Request) → Made v r r.method (judge v r)

@@ -6,6 +6,7 @@ use mathlib.Core.Path.{◌≡◌, refl}
 use mathlib.Core.Bool.{false}
 use mathlib.Core.List.{List, [], ◌∷◌, ◌++◌, map}
 use lib.ListN.{length}
+use Rattle.std.specs.Prelude.{Some}
 use Rattle.octets.specs.Octets.{bytes, crlf}
 use Rattle.writers.specs.Decimal.{digits, digits_within}
 use Rattle.writers.specs.SelfLength.{self_length}
@@ -14,7 +15,6 @@ use Rattle.synth.specs.Channel.{View}
 use Rattle.synth.specs.Calls.{Call, input}
 use Rattle.synth.specs.declared.State.TheVariants.{Speaking, Recognizing}
 use Rattle.synth.specs.declared.Setting.{Setting}
-use Rattle.synth.specs.declared.LastId.TheVariants.{Seen}
 use Rattle.synth.proofs.Computed.{opened, channel, killed, spared, beyond, replies, leaves, hears_bytes}
 use Rattle.synth.proofs.Theorems.Readings.{number_or_status}
 
@@ -26,7 +26,7 @@ recognizer = opened "7f3a@speechrecog"
 
 -- a synthesizer that holds 7 and 8
 pub speaking : View
-speaking = channel "7f3a@speechsynth" Speaking (map killed (7 ∷ 8 ∷ [])) (Seen 8)
+speaking = channel "7f3a@speechsynth" Speaking (map killed (7 ∷ 8 ∷ [])) (Some 8)
 
 abbrev pub text_of : List String → List ℕ
 text_of [] = []
@@ -95,9 +95,9 @@ pub left :
     ∷ leaves speaking (stops (ours ∷ "Active-Request-Id-List:\r\n 7\r\n " ∷ []) ∷ [])
     ∷ leaves recognizer (recognizes "Confidence-Threshold:\r\n 0.5\r\n " ∷ [])
     ∷ []
-    ≡ channel "7f3a@speechsynth" Speaking (spared 9 ∷ []) (Seen 9)
-    ∷ channel "7f3a@speechsynth" Speaking (killed 8 ∷ []) (Seen 9)
-    ∷ channel "7f3a@speechrecog" Recognizing (beyond 500000 9 ∷ []) (Seen 9)
+    ≡ channel "7f3a@speechsynth" Speaking (spared 9 ∷ []) (Some 9)
+    ∷ channel "7f3a@speechsynth" Speaking (killed 8 ∷ []) (Some 9)
+    ∷ channel "7f3a@speechrecog" Recognizing (beyond 500000 9 ∷ []) (Some 9)
     ∷ []
 unfolding synthesizer recognizer speaking opened leaves digits digits_within self_length
 left = refl

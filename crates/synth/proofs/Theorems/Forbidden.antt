@@ -7,6 +7,7 @@ use mathlib.Core.Bool.{Bool, true, false, not, ◌||◌, false≢true}
 use mathlib.Core.List.{List, [], ◌∷◌}
 use mathlib.Core.Logic.{◌⊎◌, inl, inr}
 use native.Mathlib.Omega.{arith}
+use Rattle.std.specs.Prelude.{Some}
 use Rattle.lists.specs.Lists.{all}
 use Rattle.lists.proofs.Tests.{choose}
 use Rattle.message.specs.Message.{Start, request, response, event, fields_in, Message}
@@ -21,7 +22,6 @@ use Rattle.synth.specs.declared.State.{State}
 use Rattle.synth.specs.declared.State.TheVariants.{Speaking, Paused, Recognizing}
 use Rattle.synth.specs.declared.Method.{Method}
 use Rattle.synth.specs.declared.Entry.{Entry}
-use Rattle.synth.specs.declared.LastId.TheVariants.{Seen}
 
 -- a SET-PARAMS or GET-PARAMS with a field that may not stand in it
 abbrev pub Forbidden : View → Request → Type 0
@@ -136,10 +136,10 @@ status_said (m ∷ ms) = status_of m.start
 
 -- it is due: the answer is 403, and nothing changes but the last id seen
 pub judged_403 : (v : View) (r : Request) → early v r ≡ passes → Forbidden v r
-    → judge v r ≡ failed (with_last (Seen r.id) v) r 403
+    → judge v r ≡ failed (with_last (Some r.id) v) r 403
 unfolding judge
 judged_403 v r e f =
-    let seen : View = with_last (Seen r.id) v in
+    let seen : View = with_last (Some r.id) v in
     ap (λ (l : Verdict). after_early l v r) e ∙ ap (λ (l : Verdict). after_late l seen r) (due_403 seen r f)
 
 module _ (v : View) (r : Request) where
@@ -187,7 +187,7 @@ module _ (v : View) (r : Request) where
       → (early v r ≡ passes) × Forbidden v r
   unfolding A.response
   by_early passes e h =
-      let seen : View = with_last (Seen r.id) v in
+      let seen : View = with_last (Some r.id) v in
       (e, by_late seen r (late seen r) refl h)
   by_early (fails n) e h = absurd (early_never v r (e ∙ ap fails h))
 

@@ -4,6 +4,7 @@ use Prim.Native.Nat.{ℕ}
 use Prim.Native.String.{String}
 use mathlib.Core.Path.{◌≡◌, refl}
 use mathlib.Core.List.{List, [], ◌∷◌, map}
+use Rattle.std.specs.Prelude.{Option, Some, None}
 use Rattle.octets.specs.Octets.{bytes}
 use Rattle.message.specs.Message.{Field, bad, good, Message}
 use Rattle.synth.specs.Channel.{View, first_above}
@@ -12,22 +13,20 @@ use Rattle.synth.specs.States.{Outcome}
 use Rattle.synth.specs.declared.State.{State}
 use Rattle.synth.specs.declared.State.TheVariants.{Idle, Speaking}
 use Rattle.synth.specs.declared.Method.{Method}
-use Rattle.synth.specs.declared.LastId.{LastId}
-use Rattle.synth.specs.declared.LastId.TheVariants.{NoneSeen, Seen}
 use Rattle.synth.proofs.Computed.{channel, killed, field, status_of, judges}
 
 -- a channel that holds these ids
-abbrev pub holding : State → List ℕ → LastId → View
+abbrev pub holding : State → List ℕ → Option ℕ → View
 holding state ids last = channel "7f3a@speechsynth" state (map killed ids) last
 
 pub fresh : View
-fresh = holding Idle [] NoneSeen
+fresh = holding Idle [] None
 
 pub idle : View
-idle = holding Idle [] (Seen 8)
+idle = holding Idle [] (Some 8)
 
 pub full : View
-full = holding Speaking (1 ∷ 2 ∷ 3 ∷ 4 ∷ 5 ∷ 6 ∷ 7 ∷ 8 ∷ 9 ∷ 10 ∷ 11 ∷ 12 ∷ 13 ∷ 14 ∷ 15 ∷ 16 ∷ []) (Seen 16)
+full = holding Speaking (1 ∷ 2 ∷ 3 ∷ 4 ∷ 5 ∷ 6 ∷ 7 ∷ 8 ∷ 9 ∷ 10 ∷ 11 ∷ 12 ∷ 13 ∷ 14 ∷ 15 ∷ 16 ∷ []) (Some 16)
 
 abbrev pub to_us : Field (List ℕ)
 to_us = field "Channel-Identifier" "7f3a@speechsynth"

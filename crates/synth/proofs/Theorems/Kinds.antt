@@ -4,6 +4,7 @@ use mathlib.Core.Path.{◌≡◌, refl, ap, ◌∙◌}
 use mathlib.Core.Bool.{false, ◌||◌}
 use mathlib.Core.Option.{none}
 use mathlib.Core.List.{List, [], ◌∷◌, map}
+use Rattle.std.specs.Prelude.{Some}
 use Rattle.octets.specs.Octets.{bytes}
 use Rattle.message.specs.Known as N
 use Rattle.message.specs.declared.Known.{Known}
@@ -16,7 +17,6 @@ use Rattle.synth.specs.Judgement.{passes, fails, ◌then◌, unless, permitted, 
 use Rattle.synth.specs.States.{failed, after_late, after_early, judge}
 use Rattle.synth.specs.declared.State.TheVariants.{Speaking, Recognizing}
 use Rattle.synth.specs.declared.Method.{Method}
-use Rattle.synth.specs.declared.LastId.TheVariants.{Seen}
 use Rattle.synth.proofs.Computed.{channel, killed, replies, hears_bytes}
 use Rattle.synth.proofs.Theorems.Readings.{at}
 
@@ -133,19 +133,19 @@ module _ (v : View) (r : Request) (lacked : r.method ≡ Method.Unknown) where
   fails_401 = rw (no_name, no_value, lacked, late, of_kind)
 
 -- so it is 401 where judgements 1 to 5 pass, whatever its fields, and leaves the channel as it was but for the last id seen
-pub other_kind_401 : (v : View) (r : Request) → r.method ≡ Method.Unknown → early v r ≡ passes → judge v r ≡ failed (with_last (Seen r.id) v) r 401
+pub other_kind_401 : (v : View) (r : Request) → r.method ≡ Method.Unknown → early v r ≡ passes → judge v r ≡ failed (with_last (Some r.id) v) r 401
 unfolding judge
 other_kind_401 v r lacked e =
-    let seen : View = with_last (Seen r.id) v in
+    let seen : View = with_last (Some r.id) v in
     ap (λ l. after_early l v r) e ∙ ap (λ l. after_late l seen r) (fails_401 seen r lacked)
 
 -- ---- a channel of each kind, and every method of the other one, with a value that would be 404 where it acts
 
 pub recognizer : View
-recognizer = channel "7f3a@speechrecog" Recognizing (killed 7 ∷ []) (Seen 8)
+recognizer = channel "7f3a@speechrecog" Recognizing (killed 7 ∷ []) (Some 8)
 
 pub synthesizer : View
-synthesizer = channel "7f3a@speechsynth" Speaking (killed 7 ∷ []) (Seen 8)
+synthesizer = channel "7f3a@speechsynth" Speaking (killed 7 ∷ []) (Some 8)
 
 pub of_the_other_kind :
     at recognizer "MRCP/2.0 126 SPEAK 9\r\nChannel-Identifier:7f3a@speechrecog\r\nContent-Type:text/plain\r\nContent-Length:2\r\nKill-On-Barge-In:x\r\n\r\nHi"

@@ -8,6 +8,7 @@ use mathlib.Core.Option.{none, some}
 use mathlib.Core.List.{List, [], ◌∷◌}
 use mathlib.Core.Logic.{◌⊎◌, inl, inr}
 use lib.Ieee.{Float}
+use Rattle.std.specs.Prelude.{Some}
 use Rattle.lists.specs.Lists.{put, keep}
 use Rattle.lists.proofs.Tests.{choose}
 use Rattle.message.specs.Message.{Head, Fields, message, request}
@@ -26,7 +27,6 @@ use Rattle.synth.specs.declared.Method.{Method}
 use Rattle.synth.specs.declared.Level.{Level}
 use Rattle.synth.specs.declared.Entry.{Entry}
 use Rattle.synth.specs.declared.Setting.{Setting}
-use Rattle.synth.specs.declared.LastId.TheVariants.{Seen}
 use Rattle.synth.proofs.Nexts.{Next, same, judged, ended, gone, next_of}
 use Rattle.synth.proofs.Theorems.Thresholds.{by_millionths}
 
@@ -132,7 +132,7 @@ module _ (v : View) (r : Request) where
   after_late_lem (fails status) = as_it_was
 
 after_early_lem : (v : View) (r : Request) (l : Verdict) → Stands v r (after_early l v r)
-after_early_lem v r passes = let seen : View = with_last (Seen r.id) v in after_late_lem seen r (late seen r)
+after_early_lem v r passes = let seen : View = with_last (Some r.id) v in after_late_lem seen r (late seen r)
 after_early_lem v r (fails status) = as_it_was v r
 
 judgement : (v : View) (r : Request) → Stands v r (judge v r)

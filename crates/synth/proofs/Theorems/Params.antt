@@ -8,6 +8,7 @@ use mathlib.Core.Bool.{Bool, true, false, not, ◌||◌, false≢true}
 use mathlib.Core.Option.{Option, none, some}
 use mathlib.Core.List.{List, [], ◌∷◌}
 use mathlib.Core.Logic.{◌⊎◌, inl, inr}
+use Rattle.std.specs.Prelude.{Some}
 use Rattle.lists.specs.Lists.{all, All}
 use Rattle.lists.proofs.Scans.{all_of}
 use Rattle.message.specs.Message.{fields_in}
@@ -25,7 +26,6 @@ use Rattle.synth.specs.States.{Outcome, set_by, changed, told_by, act, after_lat
 use Rattle.synth.specs.declared.Method.{Method}
 use Rattle.synth.specs.declared.Setting.{Setting}
 use Rattle.synth.specs.declared.Edition.{Edition}
-use Rattle.synth.specs.declared.LastId.TheVariants.{Seen}
 use Rattle.synth.proofs.Verdicts.{then_passes, unless_passes, is_failure, Fair, failing, early_fair, late_fair}
 use Rattle.synth.proofs.Editions.{AllLegal}
 use Rattle.synth.proofs.Methods.{legal_each}
@@ -190,11 +190,11 @@ pub record TakesAll (v : View) (r : Request) (o : Outcome) : Type 0 where
   pub no_other : AllStand v r
   pub all_legal : AllLegal r
   pub newest_four : o.next.editions ≡ further now v.editions
-  pub next : o.next ≡ with_edition now (with_last (Seen r.id) v)
+  pub next : o.next ≡ with_edition now (with_last (Some r.id) v)
 
 -- as it was, but for the last id seen where judgement 5 passed
 abbrev pub AsBefore : View → Request → View → Type 0
-AsBefore v r w = (w ≡ v) ⊎ (w ≡ with_last (Seen r.id) v)
+AsBefore v r w = (w ≡ v) ⊎ (w ≡ with_last (Some r.id) v)
 
 -- a failure changes nothing more
 pub record TakesNone (v : View) (r : Request) (o : Outcome) : Type 0 where
@@ -215,7 +215,7 @@ early_none v r status h = record {
 
 module _ (v : View) (r : Request) where
   abbrev seen : View
-  seen = with_last (Seen r.id) v
+  seen = with_last (Some r.id) v
 
   late_none : (status : ℕ) → Fair (fails status) → TakesNone v r (after_late (fails status) seen r)
   late_none status h = record {
@@ -268,7 +268,7 @@ no_value_judged r e = rw e
 pub record Tells (v : View) (r : Request) (o : Outcome) : Type 0 where
   pub says : o.says ≡ telling v.name r.id 200 (told_by v r) ∷ []
   pub no_other : AllStand v r
-  pub next : o.next ≡ with_last (Seen r.id) v
+  pub next : o.next ≡ with_last (Some r.id) v
 
 module _ (v : View) (r : Request) (get : r.method ≡ Method.GetParams) where
   get_acts : AllStand (seen v r) r → Tells v r (act r.method (seen v r) r)

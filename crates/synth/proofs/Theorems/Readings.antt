@@ -4,17 +4,17 @@ use Prim.Native.Nat.{ℕ, zero, suc}
 use Prim.Native.String.{String}
 use mathlib.Core.Path.{◌≡◌, refl}
 use mathlib.Core.List.{List, [], ◌∷◌, map}
+use Rattle.std.specs.Prelude.{Some}
 use Rattle.message.specs.Message.{Reading, refused, message}
 use Rattle.synth.specs.Channel.{View}
 use Rattle.synth.specs.Calls.{Reply}
 use Rattle.synth.specs.declared.State.{State}
 use Rattle.synth.specs.declared.State.TheVariants.{Speaking, Paused}
-use Rattle.synth.specs.declared.LastId.TheVariants.{Seen}
 use Rattle.synth.proofs.Computed.{opened, channel, killed, status_of, lends, replies, leaves, hears_bytes}
 
 -- a channel that holds these ids, the last of them the last seen
 abbrev pub holding : State → List ℕ → ℕ → View
-holding state ids last = channel "7f3a@speechsynth" state (map killed ids) (Seen last)
+holding state ids last = channel "7f3a@speechsynth" state (map killed ids) (Some last)
 
 pub fresh : View
 fresh = opened "7f3a@speechsynth"

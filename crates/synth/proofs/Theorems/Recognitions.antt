@@ -5,6 +5,7 @@ use Prim.Native.String.{String}
 use mathlib.Core.Path.{◌≡◌, refl}
 use mathlib.Core.Option.{none}
 use mathlib.Core.List.{List, [], ◌∷◌, map}
+use Rattle.std.specs.Prelude.{Some}
 use Rattle.octets.specs.Octets.{bytes}
 use Rattle.message.specs.Message.{event, Field, good, Message}
 use Rattle.message.specs.declared.RequestState.TheVariants.{Pending, InProgress, Complete}
@@ -15,7 +16,6 @@ use Rattle.synth.specs.declared.State.{State}
 use Rattle.synth.specs.declared.State.TheVariants.{Idle, Recognizing, Recognized}
 use Rattle.synth.specs.declared.Method.{Method}
 use Rattle.synth.specs.declared.Entry.{Entry}
-use Rattle.synth.specs.declared.LastId.TheVariants.{Seen}
 use Rattle.synth.proofs.Computed.{channel, killed, beyond, field, judges, replies, leaves, reports, hears_all}
 use Rattle.synth.proofs.Theorems.Transitions.{row, on, gives, lists}
 
@@ -34,7 +34,7 @@ abbrev pub one : ℕ
 one = 1065353216
 
 abbrev pub holding : State → List Entry → View
-holding state queue = channel "7f3a@speechrecog" state queue (Seen 8)
+holding state queue = channel "7f3a@speechrecog" state queue (Some 8)
 
 unfoldable pub idle : View
 idle = holding Idle []

@@ -4,12 +4,12 @@ use Prim.Native.Nat.{ℕ, ◌≤◌}
 use mathlib.Core.Path.{◌≡◌, refl}
 use mathlib.Core.List.{List, [], ◌∷◌, map}
 use lib.ListN.{length}
+use Rattle.std.specs.Prelude.{Some}
 use Rattle.octets.specs.Octets.{bytes}
 use Rattle.synth.specs.Channel.{View, kind}
 use Rattle.synth.specs.Calls.{Lent, input, report, Call, Reply, enough, call}
 use Rattle.synth.specs.Levels.{single}
 use Rattle.synth.specs.declared.State.TheVariants.{Speaking, Recognizing}
-use Rattle.synth.specs.declared.LastId.TheVariants.{Seen}
 use Rattle.synth.proofs.Computed.{channel, killed, replies}
 use Rattle.synth.proofs.Turns.{call_law}
 
@@ -24,10 +24,10 @@ abbrev pub sixteen : List ℕ
 sixteen = 4294967279 ∷ 4294967280 ∷ 4294967281 ∷ 4294967282 ∷ 4294967283 ∷ 4294967284 ∷ 4294967285 ∷ 4294967286 ∷ eight
 
 pub speaking : View
-speaking = channel "abcdefghijklmnopqrstuvwxyzabcdef@speechsynth" Speaking (map killed sixteen) (Seen 4294967294)
+speaking = channel "abcdefghijklmnopqrstuvwxyzabcdef@speechsynth" Speaking (map killed sixteen) (Some 4294967294)
 
 pub recognizing : View
-recognizing = channel "abcdefghijklmnopqrstuvwxyzabcdef@speechrecog" Recognizing (map killed eight) (Seen 4294967294)
+recognizing = channel "abcdefghijklmnopqrstuvwxyzabcdef@speechrecog" Recognizing (map killed eight) (Some 4294967294)
 
 -- all sixteen listed
 pub stop : Lent

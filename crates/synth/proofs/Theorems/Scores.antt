@@ -6,6 +6,7 @@ use mathlib.Core.Bool.{Bool, true, false, not, ◌&&◌, and-false}
 use mathlib.Core.List.{List, [], ◌∷◌}
 use lib.Ieee.{Float, lt, is_nan}
 use borrow.Author.Tests.{lt-leb}
+use Rattle.std.specs.Prelude.{Some}
 use Rattle.answer.specs.Answers.{completes}
 use Rattle.answer.specs.declared.Kind.{Kind}
 use Rattle.ledger.specs.Ledger.{Turn}
@@ -15,7 +16,6 @@ use Rattle.synth.specs.States.{Outcome, is_match, counted, ends_one, ends_all, c
 use Rattle.synth.specs.Calls.{Reply, refuse, deliver, awaits, is_no_score, is_no_cause, ending, reported, call}
 use Rattle.synth.specs.declared.State.TheVariants.{Speaking, Recognizing, Recognized}
 use Rattle.synth.specs.declared.Entry.{Entry}
-use Rattle.synth.specs.declared.LastId.TheVariants.{Seen}
 use Rattle.synth.proofs.Computed.{channel, killed, beyond}
 use Rattle.synth.proofs.Theorems.HandledCalls.{reporting}
 use Rattle.synth.proofs.Theorems.Recognitions as R
@@ -203,9 +203,9 @@ own_threshold = refl
 
 -- a synthesizer's report, whatever the score
 pub synthesizer_unscored :
-    R.reported (channel "7f3a@speechsynth" Speaking (killed 7 ∷ killed 8 ∷ []) (Seen 8)) 0 no_number_lem
+    R.reported (channel "7f3a@speechsynth" Speaking (killed 7 ∷ killed 8 ∷ []) (Some 8)) 0 no_number_lem
     ∷ []
-    ≡ R.reported (channel "7f3a@speechsynth" Speaking (killed 7 ∷ killed 8 ∷ []) (Seen 8)) 0 one
+    ≡ R.reported (channel "7f3a@speechsynth" Speaking (killed 7 ∷ killed 8 ∷ []) (Some 8)) 0 one
     ∷ []
 unfolding R.reported
 synthesizer_unscored = refl

@@ -5,6 +5,7 @@ use mathlib.Core.Path.{◌≡◌, refl}
 use mathlib.Core.Bool.{Bool, true, false}
 use mathlib.Core.List.{List, [], ◌∷◌}
 use lib.Ieee.{binary32, div, of_int, round, units, odd, size, climb, span, to_bits, of_bits}
+use Rattle.std.specs.Prelude.{Some}
 use Rattle.octets.specs.Octets.{bytes}
 use Rattle.synth.specs.Levels.{quotient}
 use Rattle.synth.specs.Kinds.{kind_of}
@@ -14,12 +15,11 @@ use Rattle.synth.specs.declared.State.{State}
 use Rattle.synth.specs.declared.State.TheVariants.{Idle, Speaking, Recognizing}
 use Rattle.synth.specs.declared.Setting.{Setting}
 use Rattle.synth.specs.declared.Edition.{Edition}
-use Rattle.synth.specs.declared.LastId.TheVariants.{Seen}
 use Rattle.synth.proofs.Computed.{channel, beyond}
 
 -- an idle channel of that name with these editions
 abbrev keeping : String → List Edition → Bool
-keeping name es = sound (record { name = bytes name; state = Idle; queue = []; last = Seen 9; editions = es })
+keeping name es = sound (record { name = bytes name; state = Idle; queue = []; last = Some 9; editions = es })
 
 abbrev synth : List Edition → Bool
 synth es = keeping "a@speechsynth" es
@@ -43,7 +43,7 @@ level millionths bits = Setting.Level (record { millionths = millionths; single 
 
 -- a channel with one request, of that threshold
 abbrev awaiting : String → State → ℕ → Bool
-awaiting name state threshold = sound (channel name state (beyond threshold 9 ∷ []) (Seen 9))
+awaiting name state threshold = sound (channel name state (beyond threshold 9 ∷ []) (Some 9))
 
 -- how many
 pub one_to_four :

@@ -8,6 +8,7 @@ use Prim.Native.Nat.{ℕ}
 use Prim.Native.String.{String}
 use native.Mathlib.Omega.{arith}
 use lib.Dec.{eqb}
+use Rattle.std.specs.Prelude.{Option, Some, None}
 use Rattle.lists.proofs.Tests.{choose}
 use Rattle.octets.specs.Octets.{bytes}
 use Rattle.synth.specs.Kinds.{kind_of}
@@ -15,8 +16,6 @@ use Rattle.synth.specs.Channel.{View, kind, fresh, well_named, shaped, are_editi
 use Rattle.synth.specs.Calls.{Call, Opened, call, open_channel}
 use Rattle.synth.specs.declared.State.{State}
 use Rattle.synth.specs.declared.State.TheVariants.{Idle, Speaking, Paused, Recognizing, Recognized}
-use Rattle.synth.specs.declared.LastId.{LastId}
-use Rattle.synth.specs.declared.LastId.TheVariants.{NoneSeen, Seen}
 use Rattle.synth.proofs.Computed.{channel, killed}
 use Rattle.synth.proofs.Channels.{facts_sound}
 use Rattle.synth.proofs.Editions.{unset_alone}
@@ -49,32 +48,32 @@ call_sound v c s = ⊎_elim {C = sound (call v c).next ≡ true} (λ h. rw h.kep
 pub refused_keeps : (v : View) (c : Call) → ((call v c).reply.number ≡ 0 → ⊥) → ((call v c).reply.written ≡ []) × ((call v c).next ≡ v)
 refused_keeps v c n = ⊎_elim {C = ((call v c).reply.written ≡ []) × ((call v c).next ≡ v)} (λ h. (h.silent, h.kept)) (λ h. absurd (n h.number)) (call_law v c).does
 
-pub named : State → List ℕ → LastId → Bool
+pub named : State → List ℕ → Option ℕ → Bool
 named state ids last = sound (channel "7f3a@speechsynth" state (map killed ids) last)
 
-pub recognizer : State → List ℕ → LastId → Bool
+pub recognizer : State → List ℕ → Option ℕ → Bool
 recognizer state ids last = sound (channel "7f3a@speechrecog" state (map killed ids) last)
 
 pub sixteen : List ℕ
 sixteen = 1 ∷ 2 ∷ 3 ∷ 4 ∷ 5 ∷ 6 ∷ 7 ∷ 8 ∷ 9 ∷ 10 ∷ 11 ∷ 12 ∷ 13 ∷ 14 ∷ 15 ∷ 16 ∷ []
 
 pub soundness :
-    named Idle [] NoneSeen
-    ∷ named Idle [] (Seen 8)
-    ∷ named Speaking (7 ∷ 9 ∷ []) (Seen 9)
-    ∷ named Paused (0 ∷ []) (Seen 4294967295)
-    ∷ named Speaking sixteen (Seen 16)
-    ∷ named Idle (7 ∷ []) (Seen 8)  -- idle, and one outstanding
-    ∷ named Paused [] (Seen 8)  -- not idle, and none
-    ∷ named Speaking (0 ∷ sixteen) (Seen 16)  -- seventeen
-    ∷ named Speaking (7 ∷ 7 ∷ []) (Seen 8)  -- ids that do not rise
-    ∷ named Speaking (8 ∷ 7 ∷ []) (Seen 8)
-    ∷ named Speaking (9 ∷ []) (Seen 8)  -- above the last one seen
-    ∷ named Speaking (0 ∷ []) NoneSeen  -- none seen
-    ∷ named Idle [] (Seen 4294967296)  -- no request-id
-    ∷ named Recognizing (7 ∷ []) (Seen 8)  -- states of the other kind
-    ∷ named Recognized [] (Seen 8)
-    ∷ sound (channel "" Idle [] NoneSeen)
+    named Idle [] None
+    ∷ named Idle [] (Some 8)
+    ∷ named Speaking (7 ∷ 9 ∷ []) (Some 9)
+    ∷ named Paused (0 ∷ []) (Some 4294967295)
+    ∷ named Speaking sixteen (Some 16)
+    ∷ named Idle (7 ∷ []) (Some 8)  -- idle, and one outstanding
+    ∷ named Paused [] (Some 8)  -- not idle, and none
+    ∷ named Speaking (0 ∷ sixteen) (Some 16)  -- seventeen
+    ∷ named Speaking (7 ∷ 7 ∷ []) (Some 8)  -- ids that do not rise
+    ∷ named Speaking (8 ∷ 7 ∷ []) (Some 8)
+    ∷ named Speaking (9 ∷ []) (Some 8)  -- above the last one seen
+    ∷ named Speaking (0 ∷ []) None  -- none seen
+    ∷ named Idle [] (Some 4294967296)  -- no request-id
+    ∷ named Recognizing (7 ∷ []) (Some 8)  -- states of the other kind
+    ∷ named Recognized [] (Some 8)
+    ∷ sound (channel "" Idle [] None)
     ∷ []
     ≡ true ∷ true ∷ true ∷ true ∷ true ∷ false ∷ false ∷ false ∷ false ∷ false ∷ false ∷ false ∷ false ∷ false ∷ false ∷ false ∷ []
 unfolding named sixteen sound shaped are_editions well_named kind_of
@@ -84,20 +83,20 @@ pub eight : List ℕ
 eight = 1 ∷ 2 ∷ 3 ∷ 4 ∷ 5 ∷ 6 ∷ 7 ∷ 8 ∷ []
 
 pub soundness_of_a_recognizer :
-    recognizer Idle [] NoneSeen
-    ∷ recognizer Idle [] (Seen 8)
-    ∷ recognizer Recognizing (7 ∷ 9 ∷ []) (Seen 9)
-    ∷ recognizer Recognizing eight (Seen 8)
-    ∷ recognizer Recognized [] (Seen 8)
-    ∷ recognizer Recognizing (0 ∷ eight) (Seen 8)  -- nine
-    ∷ recognizer Recognizing [] (Seen 8)  -- recognizing, and none outstanding
-    ∷ recognizer Idle (7 ∷ []) (Seen 8)  -- one outstanding, and not recognizing
-    ∷ recognizer Recognized (7 ∷ []) (Seen 8)
-    ∷ recognizer Recognized [] NoneSeen  -- none seen, and not idle
-    ∷ recognizer Recognizing (7 ∷ 7 ∷ []) (Seen 8)  -- ids that do not rise
-    ∷ recognizer Recognizing (9 ∷ []) (Seen 8)  -- above the last one seen
-    ∷ recognizer Speaking (7 ∷ []) (Seen 8)  -- states of the other kind
-    ∷ recognizer Paused (7 ∷ []) (Seen 8)
+    recognizer Idle [] None
+    ∷ recognizer Idle [] (Some 8)
+    ∷ recognizer Recognizing (7 ∷ 9 ∷ []) (Some 9)
+    ∷ recognizer Recognizing eight (Some 8)
+    ∷ recognizer Recognized [] (Some 8)
+    ∷ recognizer Recognizing (0 ∷ eight) (Some 8)  -- nine
+    ∷ recognizer Recognizing [] (Some 8)  -- recognizing, and none outstanding
+    ∷ recognizer Idle (7 ∷ []) (Some 8)  -- one outstanding, and not recognizing
+    ∷ recognizer Recognized (7 ∷ []) (Some 8)
+    ∷ recognizer Recognized [] None  -- none seen, and not idle
+    ∷ recognizer Recognizing (7 ∷ 7 ∷ []) (Some 8)  -- ids that do not rise
+    ∷ recognizer Recognizing (9 ∷ []) (Some 8)  -- above the last one seen
+    ∷ recognizer Speaking (7 ∷ []) (Some 8)  -- states of the other kind
+    ∷ recognizer Paused (7 ∷ []) (Some 8)
     ∷ []
     ≡ true ∷ true ∷ true ∷ true ∷ true ∷ false ∷ false ∷ false ∷ false ∷ false ∷ false ∷ false ∷ false ∷ false ∷ []
 unfolding recognizer eight sound shaped are_editions well_named kind_of
@@ -107,7 +106,7 @@ pub opens : String → Opened
 opens name = open_channel (bytes name)
 
 pub gives : ℕ → String → Opened
-gives number name = record { number = number; channel = channel name Idle [] NoneSeen }
+gives number name = record { number = number; channel = channel name Idle [] None }
 
 pub openings :
     opens "7f3a@speechsynth"

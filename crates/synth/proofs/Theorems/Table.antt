@@ -5,13 +5,13 @@ use mathlib.Core.Path.{◌≡◌, refl}
 use mathlib.Core.List.{List, [], ◌∷◌, ◌++◌, map}
 use lib.Dec.{eqb}
 use lib.ListN.{length, drop}
+use Rattle.std.specs.Prelude.{Some}
 use Rattle.lists.specs.Lists.{run, keep}
 use Rattle.octets.specs.Octets.{bytes, is_digit}
 use Rattle.writers.specs.Decimal.{digits, digits_within, width}
 use Rattle.synth.specs.Channel.{View}
 use Rattle.synth.specs.Calls.{Reply}
 use Rattle.synth.specs.declared.State.TheVariants.{Speaking}
-use Rattle.synth.specs.declared.LastId.TheVariants.{Seen}
 use Rattle.synth.proofs.Computed.{opened, channel, killed, lends, reports, replies}
 
 -- a line of the table. What a call gives: the number returned, the counts consumed and written, the text written. Of an answer: its size
@@ -50,7 +50,7 @@ fresh = opened "7f3a@speechsynth"
 
 -- the same channel, holding 1, 2, 3 and 4
 pub holding : View
-holding = channel "7f3a@speechsynth" Speaking (map killed (1 ∷ 2 ∷ 3 ∷ 4 ∷ [])) (Seen 4)
+holding = channel "7f3a@speechsynth" Speaking (map killed (1 ∷ 2 ∷ 3 ∷ 4 ∷ [])) (Some 4)
 
 -- one call on an opened channel
 pub alone : String → List Row

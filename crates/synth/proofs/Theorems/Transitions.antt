@@ -5,6 +5,7 @@ use Prim.Native.String.{String}
 use mathlib.Core.Path.{◌≡◌, refl}
 use mathlib.Core.Option.{Option, none, some}
 use mathlib.Core.List.{List, [], ◌∷◌, map}
+use Rattle.std.specs.Prelude.{Some}
 use Rattle.octets.specs.Octets.{bytes}
 use Rattle.message.specs.Message.{Start, request, response, event, Field, good, Message}
 use Rattle.message.specs.declared.RequestState.{RequestState}
@@ -19,11 +20,10 @@ use Rattle.synth.specs.declared.State.{State}
 use Rattle.synth.specs.declared.State.TheVariants.{Idle, Speaking, Paused}
 use Rattle.synth.specs.declared.Method.{Method}
 use Rattle.synth.specs.declared.Entry.{Entry}
-use Rattle.synth.specs.declared.LastId.TheVariants.{Seen}
 use Rattle.synth.proofs.Computed.{channel, killed, spared, field, status_of, judges, replies, leaves, reports}
 
 abbrev pub holding : State → List Entry → View
-holding state queue = channel "7f3a@speechsynth" state queue (Seen 8)
+holding state queue = channel "7f3a@speechsynth" state queue (Some 8)
 
 pub idle : View
 idle = holding Idle []

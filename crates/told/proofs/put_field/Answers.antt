@@ -9,20 +9,20 @@ use Rattle.synth.specs.Settings.{setting_text}
 use Rattle.told.proofs.Asked.{one_field, no_field}
 use Rattle.told.proofs.put_field.Goals as goal
 
-pub returns-then-asked : goal.returns-then-asked
-unfolding field_text
-returns-then-asked c =
+pub returns-then-not-asked : goal.returns-then-not-asked
+returns-then-not-asked c =
     let a = c.args in
+    let f : Field (List ℕ) = record { name = a.name.now; value = setting_text a.x } in
+    (rw (← no_field c.if-not-asked.true f) (wrote_none a.out.now a.at (omega arith)), omega arith)
+
+pub returns : goal.returns
+unfolding field_text
+returns c =
+    let a = c.args in
+    let f : Field (List ℕ) = record { name = a.name.now; value = setting_text a.x } in
     let w =
     c.put_bytes-p.ensures
     ▸ c.put_bytes-q.ensures
     ▸ c.put_value-r.ensures.0
     ▸ c.put_bytes.ensures in
-    let f : Field (List ℕ) = record { name = a.name.now; value = setting_text a.x } in
-    (rw (← one_field c.if-asked.true f) w, omega arith)
-
-pub returns-else-asked : goal.returns-else-asked
-returns-else-asked c =
-    let a = c.args in
-    let f : Field (List ℕ) = record { name = a.name.now; value = setting_text a.x } in
-    (rw (← no_field c.if-asked.false f) (wrote_none a.out.now a.at (omega arith)), omega arith)
+    (rw (← one_field c.if-not-asked.false f) w, omega arith)

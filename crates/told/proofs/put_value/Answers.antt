@@ -12,14 +12,5 @@ returns-in-Unset c =
     let a = c.args in
     rw c.in-Unset.is (wrote_none a.out.now a.at (omega arith), omega arith)
 
-pub returns-then-b : goal.returns-then-b
-returns-then-b c = rw (c.in-Flag.is, c.if-b.true) (c.put_bytes.ensures, omega arith)
-
-pub returns-else-b : goal.returns-else-b
-returns-else-b c = rw (c.in-Flag.is, c.if-b.false) (c.put_bytes-else-b.ensures, omega arith)
-
 pub returns-in-Millis : goal.returns-in-Millis
 returns-in-Millis c = rw c.in-Millis.is (c.put_digits.ensures, omega (arith, width_64 c.in-Millis.n (omega arith)))
-
-pub returns-in-Level : goal.returns-in-Level
-returns-in-Level c = rw c.in-Level.is c.put_level.ensures

@@ -2,19 +2,20 @@
 -- finishing refuses with 7, nothing was recorded and the output is under 12 bytes. Assumes nothing.
 use Prim.Native.Nat.{ℕ, ◌+◌, ◌-◌, ◌*◌, ◌≤◌, ◌<◌, min}
 use mathlib.Core.Path.{◌≡◌, refl, sym, ap, ap₂, subst, ◌∙◌}
-use mathlib.Core.Bool.{Bool, true, false}
+use mathlib.Core.Bool.{true}
 use mathlib.Core.Logic.{◌⊎◌, inl, inr}
 use mathlib.Core.List.{List, [], ◌∷◌, ◌++◌}
 use native.Mathlib.Omega.{arith}
 use lib.ListN.{length, take, get_or}
-use borrow.Author.Tests.{leb-false}
 use Rattle.writers.specs.Buffer.{put}
-use Rattle.traces.specs.Traces.{ending, file, IsFile, frames_in, messages, trace_of, message_of, part_of}
-use Rattle.traces.specs.Traces.{fits, can_be_left, finished, messages_in, with_ending, Records}
-use Rattle.traces.specs.declared.Finished.{Finished}
+use Rattle.traces.specs.Traces.{ending, file, IsFile, frames_in, trace_of, message_of, part_of}
+use Rattle.traces.specs.Traces.{can_be_left, finished, messages_in, with_ending, Records}
+use Rattle.std.specs.Prelude.{Ok, Err}
+use Rattle.std.proofs.lemmas.Grind.{common_steps}
+use Rattle.traces.specs.declared.Refusal.{Refusal}
 use Rattle.traces.proofs.Walking.{frames_flat}
 use Rattle.traces.proofs.Files.{ending_length, file_length}
-use Rattle.traces.proofs.Unfinished.{Holds, fit_so, ends, ends_over, put_behind}
+use Rattle.traces.proofs.Unfinished.{Holds, put_behind}
 use Rattle.traces.proofs.Theorems.ReadsExactly.{is_read}
 use Rattle.traces.proofs.Theorems.MessageN.{nth}
 use Rattle.traces.proofs.Theorems.Recording.{left_so, thirteen}
@@ -30,21 +31,17 @@ module _ (ms : List (List ℕ)) (out : List ℕ) (used count : ℕ) (l : Records
   abbrev then : List ℕ
   then = with_ending out used (finished out used count)
 
-  fitting : (n : ℕ) → finished out used count ≡ Finished.File n
+  fitting : (n : ℕ) → finished out used count ≡ Ok n
       → (n ≡ used + 4 * count + 12) × (used + 4 * count + 12 ≤ min (length out) 65536)
-  fitting n e = go (fits (length out) used count) refl
-    where
-      go : (z : Bool) → fits (length out) used count ≡ z
-          → (n ≡ used + 4 * count + 12) × (used + 4 * count + 12 ≤ min (length out) 65536)
-      go false r = let f = ends_over out used count can r in let d : ◌≡◌ {A = ℕ} 0 1 = cc in absurd (omega arith)
-      go true r = let f = ends out used count can r in (cc, fit_so (length out) used count r)
+  unfolding finished
+  fitting n e = grind (arith, common_steps, can)
 
-  ended : (n : ℕ) → finished out used count ≡ Finished.File n → then ≡ put out used (ending ms)
+  ended : (n : ℕ) → finished out used count ≡ Ok n → then ≡ put out used (ending ms)
   ended n e =
       ap (with_ending out used) e
       ∙ ap (λ r. put out used (ending (messages_in r))) (ap frames_in h.made ∙ frames_flat ms h.whole)
 
-  pub is_file : (n : ℕ) → finished out used count ≡ Finished.File n → IsFile (take n then) ms
+  pub is_file : (n : ℕ) → finished out used count ≡ Ok n → IsFile (take n then) ms
   unfolding file
   is_file n e =
       let (p, q) = fitting n e in
@@ -59,26 +56,26 @@ module _ (ms : List (List ℕ)) (out : List ℕ) (used count : ℕ) (l : Records
         most = subst (λ f. length f ≤ 65536) (sym made) (omega (arith, q, file_length ms, h.sized, h.as_many));
       }
 
-  pub given_back : (n : ℕ) → finished out used count ≡ Finished.File n → trace_of (take n then) ≡ messages ms
+  pub given_back : (n : ℕ) → finished out used count ≡ Ok n → trace_of (take n then) ≡ Ok ms
   given_back n e = is_read (take n then) ms (is_file n e)
 
-  pub nth_recorded : (n : ℕ) → finished out used count ≡ Finished.File n → (k : ℕ) → 1 ≤ k → k ≤ length ms
+  pub nth_recorded : (n : ℕ) → finished out used count ≡ Ok n → (k : ℕ) → 1 ≤ k → k ≤ length ms
       → part_of (message_of (take n then) k) (take n then) ≡ get_or ms (k - 1) []
   nth_recorded n e k a b = nth (take n then) ms (is_file n e) k a b
 
-  pub seven_only : finished out used count ≡ Finished.Refused 7 → (ms ≡ []) × (length out < 12)
+  pub seven_only : finished out used count ≡ Err Refusal.NoRoom → (ms ≡ []) × (length out < 12)
+  unfolding finished
   seven_only e = go h.room
     where
       none_yet : (ks : List (List ℕ)) → length ks ≡ 0 → ks ≡ []
       none_yet [] z = refl
       none_yet (k ∷ ks) z = absurd (omega arith)
 
-      short : (z : Bool) → fits (length out) used count ≡ z → min (length out) 65536 < used + 4 * count + 12
-      short false r = leb-false (used + 4 * count + 12) (min (length out) 65536) r
-      short true r = let f = ends out used count can r in let d : ◌≡◌ {A = ℕ} 0 1 = cc in absurd (omega arith)
+      short : min (length out) 65536 < used + 4 * count + 12
+      short = grind (arith, common_steps, can)
 
       go : ((used ≡ 0) × (count ≡ 0)) ⊎ (used + 4 * count + 12 ≤ min (length out) 65536)
           → (ms ≡ []) × (length out < 12)
       go (inl (a, b)) =
-          (none_yet ms (h.as_many ∙ b), omega (arith, short (fits (length out) used count) refl, a, b))
-      go (inr r) = absurd (omega (arith, short (fits (length out) used count) refl))
+          (none_yet ms (h.as_many ∙ b), omega (arith, short, a, b))
+      go (inr r) = absurd (omega (arith, short))

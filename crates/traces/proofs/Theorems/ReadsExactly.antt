@@ -6,11 +6,12 @@ use mathlib.Core.Logic.{◌↔◌}
 use mathlib.Core.List.{List}
 use lib.ListN.{length}
 use Rattle.lists.specs.Lists.{All}
-use Rattle.traces.specs.Traces.{IsFile, messages, trace_of}
+use Rattle.std.specs.Prelude.{Ok}
+use Rattle.traces.specs.Traces.{IsFile, trace_of}
 use Rattle.traces.proofs.Files.{file_read, read_file}
 
-pub is_read : (f : List ℕ) (ms : List (List ℕ)) → IsFile f ms → trace_of f ≡ messages ms
+pub is_read : (f : List ℕ) (ms : List (List ℕ)) → IsFile f ms → trace_of f ≡ Ok ms
 is_read f ms i = ap trace_of i.made ∙ file_read ms (subst (λ l. length l ≤ 65536) i.made i.most) i.whole
 
-pub reads_exactly : (f : List ℕ) → All (λ x. x < 256) f → (ms : List (List ℕ)) → (trace_of f ≡ messages ms) ↔ IsFile f ms
+pub reads_exactly : (f : List ℕ) → All (λ x. x < 256) f → (ms : List (List ℕ)) → (trace_of f ≡ Ok ms) ↔ IsFile f ms
 reads_exactly f o ms = (read_file f o ms, is_read f ms)

@@ -2,21 +2,21 @@
 -- left; and a refused call changes nothing. Assumes nothing.
 use Prim.Native.Nat.{ℕ, ◌+◌, ◌*◌, ◌≤◌, min}
 use mathlib.Core.Path.{◌≡◌, refl, sym, ap, subst, ◌∙◌}
-use mathlib.Core.Bool.{Bool, true, false}
+use mathlib.Core.Bool.{true}
 use mathlib.Core.Logic.{◌↔◌, ◌⊎◌, inl, inr}
 use mathlib.Core.List.{List, [], ◌∷◌, ◌++◌, append_assoc, append-nil}
 use native.Mathlib.Omega.{arith}
 use lib.ListN.{length, drop, length-append, take-append-drop}
 use Rattle.lists.specs.Lists.{All}
 use Rattle.writers.specs.Buffer.{put}
-use Rattle.framing.specs.Framing.{framing}
-use Rattle.traces.specs.Traces.{flat, OneFrame, fits, can_be_left, is_one, recorded, with_message, finished}
+use Rattle.traces.specs.Traces.{flat, OneFrame, can_be_left, recorded, with_message, finished}
 use Rattle.traces.specs.Traces.{with_ending, Records, nothing, onward}
-use Rattle.traces.specs.declared.Recorded.{Recorded}
-use Rattle.traces.specs.declared.Finished.{Finished}
+use Rattle.traces.specs.declared.Refusal.{Refusal}
+use Rattle.traces.specs.Refusals.{number_of}
+use Rattle.std.specs.Prelude.{Err}
+use Rattle.std.proofs.lemmas.Grind.{common_steps}
 use Rattle.traces.proofs.Unfinished.{Holds, holds_can, can_holds, so_fit, one_is, holds_more, flat_more}
-use Rattle.traces.proofs.Unfinished.{put_there, goes, goes_on, not_left, not_one, no_room}
-use Rattle.traces.proofs.Unfinished.{ends, ends_not, ends_over}
+use Rattle.traces.proofs.Unfinished.{put_there, goes, goes_on}
 
 -- whatever recording left are its messages end to end, counted, with room for what ends the file
 pub left_so : (ms : List (List ℕ)) (out : List ℕ) (used count : ℕ) → Records ms out used count → Holds ms out used count
@@ -98,61 +98,34 @@ module _ (ms : List (List ℕ)) (out : List ℕ) (used count : ℕ) (l : Records
   can : can_be_left out used count ≡ true
   can = (thirteen out used count).1 (ms, l)
 
-  pub never_13 : (m : List ℕ) → recorded out used count m ≡ Recorded.Refused 13 → ⊥
-  never_13 m e = go (is_one (length m) (framing m)) (fits (length out) (used + length m) (count + 1)) refl refl
-    where
-      go : (y z : Bool) → is_one (length m) (framing m) ≡ y → fits (length out) (used + length m) (count + 1) ≡ z → ⊥
-      go false z q r = let f = not_one out used count m can q in let d : ◌≡◌ {A = ℕ} 14 13 = cc in omega arith
-      go true false q r = let f = no_room out used count m can q r in let d : ◌≡◌ {A = ℕ} 7 13 = cc in omega arith
-      go true true q r = let f = goes_on out used count m can q r in let d : ◌≡◌ {A = ℕ} 0 1 = cc in omega arith
+  pub never_13 : (m : List ℕ) → recorded out used count m ≡ Err Refusal.NoTrace → ⊥
+  unfolding recorded
+  never_13 m e = grind (arith, common_steps, can)
 
-  pub finishes : finished out used count ≡ Finished.Refused 13 → ⊥
-  finishes e = go (fits (length out) used count) refl
-    where
-      go : (z : Bool) → fits (length out) used count ≡ z → ⊥
-      go false r = let f = ends_over out used count can r in let d : ◌≡◌ {A = ℕ} 7 13 = cc in omega arith
-      go true r = let f = ends out used count can r in let d : ◌≡◌ {A = ℕ} 0 1 = cc in omega arith
+  pub finishes : finished out used count ≡ Err Refusal.NoTrace → ⊥
+  unfolding finished
+  finishes e = grind (arith, common_steps, can)
 
--- the numbers of refusals
+-- the numbers of refusals are none of them 0
+some_number : (r : Refusal) → 1 ≤ number_of r
+some_number Refusal.NoRoom = omega arith
+some_number Refusal.NoTrace = omega arith
+some_number Refusal.Misframed = omega arith
+some_number Refusal.NoSuchMessage = omega arith
+
 module _ (out : List ℕ) (used count : ℕ) where
-  pub record_numbers : (m : List ℕ) (n : ℕ) → recorded out used count m ≡ Recorded.Refused n → 1 ≤ n
-  record_numbers m n e =
-      go (can_be_left out used count) (is_one (length m) (framing m)) (fits (length out) (used + length m) (count + 1))
-      refl refl refl
-    where
-      by : (j : ℕ) → 1 ≤ j → recorded out used count m ≡ Recorded.Refused j → 1 ≤ n
-      by j h f = let d : n ≡ j = cc in omega arith
+  pub record_numbers : (m : List ℕ) (r : Refusal) → recorded out used count m ≡ Err r → 1 ≤ number_of r
+  record_numbers m r e = some_number r
 
-      go : (x y z : Bool) → can_be_left out used count ≡ x → is_one (length m) (framing m) ≡ y
-          → fits (length out) (used + length m) (count + 1) ≡ z → 1 ≤ n
-      go false y z p q r = by 13 (omega arith) (not_left out used count m p)
-      go true false z p q r = by 14 (omega arith) (not_one out used count m p q)
-      go true true false p q r = by 7 (omega arith) (no_room out used count m p q r)
-      go true true true p q r =
-          let f = goes_on out used count m p q r in
-          let d : ◌≡◌ {A = ℕ} 0 1 = cc in
-          absurd (omega arith)
-
-  pub finish_numbers : (n : ℕ) → finished out used count ≡ Finished.Refused n → 1 ≤ n
-  finish_numbers n e = go (can_be_left out used count) (fits (length out) used count) refl refl
-    where
-      by : (j : ℕ) → 1 ≤ j → finished out used count ≡ Finished.Refused j → 1 ≤ n
-      by j h f = let d : n ≡ j = cc in omega arith
-
-      go : (x z : Bool) → can_be_left out used count ≡ x → fits (length out) used count ≡ z → 1 ≤ n
-      go false z p r = by 13 (omega arith) (ends_not out used count p)
-      go true false p r = by 7 (omega arith) (ends_over out used count p r)
-      go true true p r =
-          let f = ends out used count p r in
-          let d : ◌≡◌ {A = ℕ} 0 1 = cc in
-          absurd (omega arith)
+  pub finish_numbers : (r : Refusal) → finished out used count ≡ Err r → 1 ≤ number_of r
+  finish_numbers r e = some_number r
 
 -- a refused call changes nothing
-module _ (out : List ℕ) (used count n : ℕ) where
-  pub record_unchanged : (m : List ℕ) → recorded out used count m ≡ Recorded.Refused n
+module _ (out : List ℕ) (used count : ℕ) (r : Refusal) where
+  pub record_unchanged : (m : List ℕ) → recorded out used count m ≡ Err r
       → with_message out used m (recorded out used count m) ≡ out
   record_unchanged m e = ap (with_message out used m) e
 
-  pub finish_unchanged : finished out used count ≡ Finished.Refused n
+  pub finish_unchanged : finished out used count ≡ Err r
       → with_ending out used (finished out used count) ≡ out
   finish_unchanged e = ap (with_ending out used) e

@@ -1,59 +1,34 @@
 -- `tracewriter::so_many` meets its contract. Assumes nothing.
-use native.Mathlib.Omega.{arith}
-use Prim.Native.Nat.{◌+◌, ◌≤◌}
-use mathlib.Core.Path.{sym, ap, ◌∙◌}
-use lib.ListN.{length}
-use Rattle.traces.specs.Steps.{frame_size}
-use Rattle.tracewriter.proofs.Counting.{rest_from, counted_start, counted_end, counted_none, counted_within}
-use Rattle.tracewriter.proofs.Counting.{counted_on}
+use Rattle.std.proofs.Common.{◌≡◌, ◌+◌, ◌-◌, sym, ◌∙◌, arith}
+use Rattle.std.proofs.lemmas.Grind.{common_steps}
+use Rattle.traces.proofs.Fronts.{front_frame}
+use Rattle.tracewriter.proofs.Counting.{counted_end, counted_none, counted_on}
 use Rattle.tracewriter.proofs.so_many.Goals as goal
-use Rattle.tracewriter.proofs.so_many.Goals.{Else-n-eq0}
 
-pub loop-i-init : goal.loop-i-init
-loop-i-init c =
-    let a = c.args in
-    (omega arith, omega arith, counted_start a.s.now a.count)
+pub loop-init : goal.loop-init
+loop-init c = grind (arith, common_steps)
 
-pub returns-then-n-eq0 : goal.returns-then-n-eq0
-returns-then-n-eq0 c =
-    let a = c.args in
-    let f = c.frame_size-n in
-    let s = f.ensures ∙ ap frame_size (rest_from c.loop-i.i a.s.now) in
-    let t = c.loop-i-test.true in
-    sym (c.loop-i.invariant.2 ∙ counted_none a.s.now a.count c.loop-i.k c.loop-i.i t (sym s ∙ c.if-n-eq0.true))
+pub returns-in_default : goal.returns-in_default
+returns-in_default c =
+    let j = c.args.count - (c.loop.counter + 1) in
+    let p : c.args.count - c.loop.counter ≡ j + 1 = omega arith in
+    grind (arith, common_steps, counted_none c.loop.rest.now j)
 
--- the frame is there
-within : (c : Else-n-eq0)
-    → (1 ≤ c.frame_size-n.result)
-    × (c.loop-i.i + c.frame_size-n.result
-    ≤ length c.args.s.now)
-within c =
-    let l = c.before.before.before.before in
-    let a = l.args in
-    let f = c.frame_size-n in
-    let s = f.ensures ∙ ap frame_size (rest_from l.loop-i.i a.s.now) in
-    let t = c.loop-i-test.true in
-    counted_within a.s.now a.count l.loop-i.k l.loop-i.i t f.result s c.if-n-eq0.false
+pub slice_bounds-rest-count : goal.slice_bounds-rest-count
+slice_bounds-rest-count c =
+    omega (arith, (front_frame c.loop.rest.now c.in-Ok.frame (sym c.frame.ensures ∙ c.in-Ok.is)).there)
 
-pub overflow_add-i : goal.overflow_add-i
-overflow_add-i c = omega (arith, within (goal.at.overflow_add-i c).Else-n-eq0)
+pub slice_bounds-rest-start : goal.slice_bounds-rest-start
+slice_bounds-rest-start c =
+    omega (arith, (front_frame c.loop.rest.now c.in-Ok.frame (sym c.frame.ensures ∙ c.in-Ok.is)).there)
 
-pub overflow_add-k : goal.overflow_add-k
-overflow_add-k c = omega (arith, within (goal.at.overflow_add-k c).Else-n-eq0)
-
-pub loop-i-smaller : goal.loop-i-smaller
-loop-i-smaller c = omega (arith, within (goal.at.loop-i-smaller c).Else-n-eq0)
-
-pub loop-i-preserved : goal.loop-i-preserved
-loop-i-preserved c =
-    let a = c.args in
-    let f = c.frame_size-n in
-    let s = f.ensures ∙ ap frame_size (rest_from c.loop-i.i a.s.now) in
-    let t = c.loop-i-test.true in
-    let on = counted_on a.s.now a.count c.loop-i.k c.loop-i.i t f.result s c.if-n-eq0.false in
-    ((within (goal.at.loop-i-preserved c).Else-n-eq0).1, omega (arith, within (goal.at.loop-i-preserved c).Else-n-eq0), c.loop-i.invariant.2 ∙ on)
+pub loop-preserved : goal.loop-preserved
+loop-preserved c =
+    let j = c.args.count - (c.loop.counter + 1) in
+    let p : c.args.count - c.loop.counter ≡ j + 1 = omega arith in
+    grind (arith, common_steps, counted_on c.loop.rest.now j)
 
 pub returns : goal.returns
 returns c =
-    let a = c.args in
-    sym (c.loop-i.invariant.2 ∙ counted_end a.s.now a.count c.loop-i.k c.loop-i.i (omega arith))
+    let z : c.args.count - c.loop.counter ≡ 0 = omega arith in
+    grind (arith, common_steps, counted_end c.loop.rest.now)

@@ -1,28 +1,23 @@
 -- `values::content` meets its contract: the fields in the judgement's order.
 -- Assumes nothing.
 use mathlib.Core.Path.{ap, ◌∙◌}
-use Rattle.synth.specs.Judgement.{fails}
+use borrow.Author.Rules.{rules}
+use Rattle.synth.specs.Judgement.{unless, ◌then◌}
+use Rattle.synth.proofs.Theorems.ValuesJudgedAlike.{types_alike}
 use Rattle.values.specs.Values.{typed_content}
-use Rattle.values.proofs.Openings.{without_length, without_type, with_both}
 use Rattle.values.proofs.content.Goals as goal
 
-pub returns-in-Nothing : goal.returns-in-Nothing
-returns-in-Nothing c =
-    let a = c.args in
-    ap fails c.field_missing.ensures
-    ∙ without_length a.m a.f.now a.length a.media a.body c.in-Nothing.is
+pub returns-in_default : goal.returns-in_default
+unfolding unless ◌then◌
+returns-in_default c = search rules
 
-pub returns-in-Nothing-media : goal.returns-in-Nothing-media
-returns-in-Nothing-media c =
-    let a = c.args in
-    ap fails c.field_missing-in-Nothing-media.ensures
-    ∙ without_type a.m a.f.now a.length a.media a.body _
-    c.in-At.is
-    c.in-Nothing-media.is
+pub returns-in_default-2 : goal.returns-in_default-2
+unfolding unless ◌then◌
+returns-in_default-2 c = search rules
 
-pub returns-in-At-media : goal.returns-in-At-media
-returns-in-At-media c =
+pub returns : goal.returns
+unfolding unless ◌then◌
+returns c =
     let a = c.args in
-    c.typed_content.ensures ∙ ap (λ t. typed_content a.m t a.body) c.part.ensures
-    ∙ with_both a.m a.f.now a.length a.media a.body _ _
-    c.in-At.is c.in-At-media.is
+    rw (c.in-Some-Some.is-0, c.in-Some-Some.is-1, types_alike)
+    (c.typed_content.ensures ∙ ap (λ t. typed_content a.m t a.body) c.part.ensures)

@@ -21,13 +21,13 @@ use Rattle.framing.proofs.Openings.{got_size}
 use Rattle.message.specs.Message.{Start}
 use Rattle.message.specs.StartLines.{start_of}
 use Rattle.message.specs.declared.Span.{Span}
-use Rattle.whose.specs.Whose.{id_in, of_start, of_line, window, of_opening, whose, refusal}
-use Rattle.whose.specs.declared.Whose.{Whose}
-use Rattle.whose.specs.declared.Whose.TheVariants.{More, TooShort, Malformed, Id}
+use Rattle.std.specs.Prelude.{Ok, Err}
+use Rattle.whose.specs.Whose.{Whose, id_in, of_start, of_line, window, of_opening, whose, refusal}
+use Rattle.whose.specs.declared.NoId.TheVariants.{More, TooShort, Malformed}
 use Rattle.whose.proofs.Ways.{too_short}
 
 -- the answers that there are behind an opening
-module _ (P : Whose → Type 0) (waits : P More) (malformed : P Malformed) (told : (i : ℕ) → P (Id i)) where
+module _ (P : Whose → Type 0) (waits : P (Err More)) (malformed : P (Err Malformed)) (told : (i : ℕ) → P (Ok i)) where
   start_ways : (r : Option (Start Span)) → P (of_start r)
   start_ways none = malformed
   start_ways (some st) = told (id_in st)
@@ -36,7 +36,7 @@ module _ (P : Whose → Type 0) (waits : P More) (malformed : P Malformed) (told
   line_ways k stated lent none = choose P (ltb lent 128 && ltb lent stated) (λ _. waits) (λ _. malformed)
   line_ways k stated lent (some l) = start_ways (start_of k (words 32 l))
 
-  opened_ways : (s : List ℕ) (o : Opening) (k : ℕ) → (o.stated < k → P TooShort) → P (of_opening s (got o k))
+  opened_ways : (s : List ℕ) (o : Opening) (k : ℕ) → (o.stated < k → P (Err TooShort)) → P (of_opening s (got o k))
   opened_ways s o k little =
       choose P (ltb o.stated k) (λ b. little (ltb-true o.stated k b))
       (λ _. line_ways k o.stated (length s) (line (drop k (window o.stated s))))

@@ -16,7 +16,8 @@ use Rattle.framing.specs.Framing.{opening}
 use Rattle.framing.specs.declared.Opening.{Opening}
 use Rattle.framing.proofs.Openings as O
 use Rattle.whose.specs.Whose.{of_line, window, of_opening, whose}
-use Rattle.whose.specs.declared.Whose.TheVariants.{More, Malformed}
+use Rattle.std.specs.Prelude.{Err}
+use Rattle.whose.specs.declared.NoId.TheVariants.{More, Malformed}
 use Rattle.whose.proofs.Ways.{too_short, by_line_lem}
 
 module _ (s : List ℕ) where
@@ -41,7 +42,7 @@ module _ (s : List ℕ) where
 
   same_line : (k stated : ℕ) (r : Option (List ℕ)) → of_line k stated (length front) r ≡ of_line k stated (length s) r
   same_line k stated none =
-      ap (λ b. elim b [ true ↦ More | false ↦ Malformed ]) (same_waiting stated (ltb (length s) 128) refl)
+      ap (λ b. elim b [ true ↦ Err More | false ↦ Err Malformed ]) (same_waiting stated (ltb (length s) 128) refl)
   same_line k stated (some l) = refl
 
   same_answer : (r : Read Opening) → of_opening front r ≡ of_opening s r

@@ -16,9 +16,9 @@ use Rattle.framing.specs.Framing.{opening}
 use Rattle.framing.specs.declared.Opening.{Opening}
 use Rattle.framing.proofs.Openings.{got_size, more}
 use Rattle.framing.proofs.Written.{read_written}
-use Rattle.whose.specs.Whose.{of_line, window, of_opening, whose}
-use Rattle.whose.specs.declared.Whose.{Whose}
-use Rattle.whose.specs.declared.Whose.TheVariants.{More}
+use Rattle.std.specs.Prelude.{Err}
+use Rattle.whose.specs.Whose.{Whose, of_line, window, of_opening, whose}
+use Rattle.whose.specs.declared.NoId.TheVariants.{More}
 use Rattle.whose.proofs.Lines.{line_more}
 use Rattle.whose.proofs.Ways.{no_more, want_more, too_short, by_line_lem}
 
@@ -68,7 +68,7 @@ module _ (s t : List ℕ) where
     seen u = line (drop k (window o.stated u))
 
     none_stays : seen s ≡ none → (b : Bool) → ltb (length s) 128 && ltb (length s) o.stated ≡ b
-        → (answer s none ≡ More → ⊥) → answer (s ++ t) (seen (s ++ t)) ≡ answer s none
+        → (answer s none ≡ Err More → ⊥) → answer (s ++ t) (seen (s ++ t)) ≡ answer s none
     none_stays q true b h = absurd (h (want_more k o.stated (length s) b))
     none_stays q false b h =
         let m = enough (length s) o.stated b in
@@ -78,7 +78,7 @@ module _ (s t : List ℕ) where
         ∙ no_more k o.stated (length (s ++ t)) (still (length (s ++ t)) o.stated l)
         ∙ sym (no_more k o.stated (length s) b)
 
-    line_stays : (r : Option (List ℕ)) → seen s ≡ r → (answer s r ≡ More → ⊥)
+    line_stays : (r : Option (List ℕ)) → seen s ≡ r → (answer s r ≡ Err More → ⊥)
         → answer (s ++ t) (seen (s ++ t)) ≡ answer s r
     line_stays none q h = none_stays q (ltb (length s) 128 && ltb (length s) o.stated) refl h
     line_stays (some l) q h =
@@ -88,12 +88,12 @@ module _ (s t : List ℕ) where
         ap (answer (s ++ t))
         (ap (λ u. line (drop k u)) p ∙ ap line (drop-append-le k (take m s) v w) ∙ line_more (drop k (take m s)) v l q)
 
-    opened_stays : (of_opening s (got o k) ≡ More → ⊥) → ltb o.stated k ≡ false
+    opened_stays : (of_opening s (got o k) ≡ Err More → ⊥) → ltb o.stated k ≡ false
         → of_opening (s ++ t) (got o k) ≡ of_opening s (got o k)
     opened_stays h b =
         by_line_lem (s ++ t) o k b ∙ line_stays (seen s) refl (λ z. h (by_line_lem s o k b ∙ z)) ∙ sym (by_line_lem s o k b)
 
-  stays_by : (r : Read Opening) → opening s ≡ r → (of_opening s r ≡ More → ⊥)
+  stays_by : (r : Read Opening) → opening s ≡ r → (of_opening s r ≡ Err More → ⊥)
       → of_opening (s ++ t) (opening (s ++ t)) ≡ of_opening s r
   stays_by short e h = absurd (h refl)
   stays_by wrong e h = ap (of_opening (s ++ t)) (more s t wrong e)
@@ -103,6 +103,6 @@ module _ (s t : List ℕ) where
       go true b = too_short (s ++ t) o k b ∙ sym (too_short s o k b)
       go false b = opened_stays o k e (ltb-false o.stated k b) h b
 
-  pub stays : (whose s ≡ More → ⊥) → whose (s ++ t) ≡ whose s
+  pub stays : (whose s ≡ Err More → ⊥) → whose (s ++ t) ≡ whose s
   unfolding whose
   stays h = stays_by (opening s) refl h

@@ -13,15 +13,15 @@ use lib.Seq.{take-take, drop-append-le, length-take-le}
 use borrow.Author.Tests.{le-ltb}
 use Rattle.readers.specs.Words.{line, words}
 use Rattle.readers.proofs.Cuts.{Cut, line_cut, line_length}
-use Rattle.framing.specs.Framing.{framing}
-use Rattle.framing.specs.declared.Framing.TheVariants.{Frame}
+use Rattle.std.specs.Prelude.{Ok, Err}
+use Rattle.framing.specs.Framing.{Frame, framing}
 use Rattle.framing.proofs.Frames.{frame_opened}
 use Rattle.message.specs.Message.{Start, Fields, Head, Reading, message}
 use Rattle.message.specs.StartLines.{Started, started, going_on, start_of, line_start, start_line}
 use Rattle.message.specs.Reading.{asks_params, fields_from, read_from, read_framed, reading}
 use Rattle.message.specs.declared.Span.{Span}
 use Rattle.whose.specs.Whose.{id_in, of_start, of_line, window, of_opening, whose, Agrees}
-use Rattle.whose.specs.declared.Whose.TheVariants.{Malformed, Id}
+use Rattle.whose.specs.declared.NoId.TheVariants.{Malformed}
 use Rattle.whose.proofs.Lines.{line_more, line_fewer, start_short, drop_take}
 use Rattle.whose.proofs.Ways.{no_more, by_line_lem}
 use Rattle.whose.proofs.Theorems.ForGood.{stays}
@@ -66,12 +66,12 @@ module _ (s : List ℕ) (a b k n : ℕ) (e : framing s ≡ Frame a b k n) where
 
   -- no line in the window: reading finds none that is well formed
   none_read : line (drop k (window n s)) ≡ none → (r : Option (List ℕ)) → line (drop k frame) ≡ r
-      → Agrees (read r) Malformed
+      → Agrees (read r) (Err Malformed)
   none_read w none q = (refl, refl)
   none_read w (some l) q = go (start_of k (words 32 l)) refl
     where
       go : (r : Option (Start Span)) → start_of k (words 32 l) ≡ r
-          → Agrees (read_from head frame (going_on r (k + length l + 2))) Malformed
+          → Agrees (read_from head frame (going_on r (k + length l + 2))) (Err Malformed)
       go none p = (refl, refl)
       go (some st) p = absurd (line_within w l q st p)
 
@@ -109,18 +109,18 @@ module _ (s : List ℕ) (a b k n : ℕ) (e : framing s ≡ Frame a b k n) where
       (subst (Agrees (read (line (drop k frame)))) (sym whose_is) (same (line (drop k (window n s))) refl))
 
   -- an id that agrees with full reading is the message's
-  id_read : (i : ℕ) → Agrees (reading s) (Id i)
+  id_read : (i : ℕ) → Agrees (reading s) (Ok i)
       → (h : Head) × (st : Start Span) × (fs : Fields Span) × (reading s ≡ message h st fs) × (id_in st ≡ i)
-  id_read i g = go (line_start k (line (drop k frame))) read_is (subst (λ r. Agrees r (Id i)) read_is g)
+  id_read i g = go (line_start k (line (drop k frame))) read_is (subst (λ r. Agrees r (Ok i)) read_is g)
     where
-      go : (x : Started) → reading s ≡ read_from head frame x → Agrees (read_from head frame x) (Id i)
+      go : (x : Started) → reading s ≡ read_from head frame x → Agrees (read_from head frame x) (Ok i)
           → (h : Head) × (st : Start Span) × (fs : Fields Span) × (reading s ≡ message h st fs) × (id_in st ≡ i)
       go Started.malformed q (_, g) = let d : ◌≡◌ {A = ℕ} 0 1 = cc in absurd (omega arith)
       go (started st at) q g = (head, st, fields_from (asks_params frame st) frame at, q, (let p : i ≡ id_in st = cc in sym p))
 
 -- whatever bytes come behind those that the id was told from
-pub told_early : (s t : List ℕ) (a b k n i : ℕ) → whose s ≡ Id i → framing (s ++ t) ≡ Frame a b k n
+pub told_early : (s t : List ℕ) (a b k n i : ℕ) → whose s ≡ Ok i → framing (s ++ t) ≡ Frame a b k n
     → (h : Head) × (st : Start Span) × (fs : Fields Span) × (reading (s ++ t) ≡ message h st fs) × (id_in st ≡ i)
 told_early s t a b k n i e f =
-    let stayed : whose (s ++ t) ≡ Id i = stays s t (λ z. let d : ◌≡◌ {A = ℕ} 0 1 = cc in omega arith) ∙ e in
+    let stayed : whose (s ++ t) ≡ Ok i = stays s t (λ z. let d : ◌≡◌ {A = ℕ} 0 1 = cc in omega arith) ∙ e in
     id_read (s ++ t) a b k n f i (subst (Agrees (reading (s ++ t))) stayed (once_framed (s ++ t) a b k n f))

@@ -6,9 +6,9 @@ use mathlib.Core.List.{[], ◌∷◌, ◌++◌}
 use lib.ListN.{replicate, take}
 use Rattle.octets.specs.Octets.{bytes}
 use Rattle.framing.specs.Framing.{opening}
-use Rattle.whose.specs.Whose.{whose}
-use Rattle.whose.specs.declared.Whose.{Whose}
-use Rattle.whose.specs.declared.Whose.TheVariants.{More, NoMessage, TooShort, Malformed, Id}
+use Rattle.std.specs.Prelude.{Ok, Err}
+use Rattle.whose.specs.Whose.{Whose, whose}
+use Rattle.whose.specs.declared.NoId.TheVariants.{More, NoMessage, TooShort, Malformed}
 
 pub told : String → Whose
 told text = whose (bytes text)
@@ -39,30 +39,30 @@ pub answers :
     ∷ told "MRCP/2.0  99 SPEAK 7\r\n"
     ∷ told "mrcp/2.0 99 SPEAK 7\r\n"
     ∷ []
-    ≡ Id 7
-    ∷ Id 7
-    ∷ Id 7
-    ∷ Id 7
-    ∷ Id 8
-    ∷ Id 8
-    ∷ Id 7
-    ∷ Id 7
-    ∷ Id 4294967295
-    ∷ Malformed
-    ∷ Malformed
-    ∷ More
-    ∷ More
-    ∷ More
-    ∷ Malformed
-    ∷ Malformed
-    ∷ Malformed
-    ∷ Malformed
-    ∷ TooShort
-    ∷ TooShort
-    ∷ More
-    ∷ More
-    ∷ NoMessage
-    ∷ NoMessage
+    ≡ Ok 7
+    ∷ Ok 7
+    ∷ Ok 7
+    ∷ Ok 7
+    ∷ Ok 8
+    ∷ Ok 8
+    ∷ Ok 7
+    ∷ Ok 7
+    ∷ Ok 4294967295
+    ∷ Err Malformed
+    ∷ Err Malformed
+    ∷ Err More
+    ∷ Err More
+    ∷ Err More
+    ∷ Err Malformed
+    ∷ Err Malformed
+    ∷ Err Malformed
+    ∷ Err Malformed
+    ∷ Err TooShort
+    ∷ Err TooShort
+    ∷ Err More
+    ∷ Err More
+    ∷ Err NoMessage
+    ∷ Err NoMessage
     ∷ []
 unfolding told whose opening
 answers = refl
@@ -80,13 +80,13 @@ pub around_128 :
     ∷ front 128 114
     ∷ front 129 114
     ∷ []
-    ≡ More
-    ∷ Malformed
-    ∷ More
-    ∷ Malformed
-    ∷ More
-    ∷ Malformed
-    ∷ Malformed
+    ≡ Err More
+    ∷ Err Malformed
+    ∷ Err More
+    ∷ Err Malformed
+    ∷ Err More
+    ∷ Err Malformed
+    ∷ Err Malformed
     ∷ []
 unfolding front whose opening
 around_128 = refl

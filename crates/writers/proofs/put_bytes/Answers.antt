@@ -1,41 +1,24 @@
--- `writers::put_bytes` meets its contract. The invariant: `out` is what it was with the first k bytes of `src` from `at` on. Assumes nothing.
-use mathlib.Core.Path.{◌≡◌, refl, sym, ap, ◌∙◌}
-use mathlib.Core.List.{List, ◌++◌}
-use Prim.Native.Nat.{ℕ, ◌+◌}
-use native.Mathlib.Numerals.{add-one}
+-- `writers::put_bytes` meets its contract. Assumes nothing.
+use Prim.Native.Nat.{◌+◌}
+use native.Mathlib.Nat.{add-zero}
 use native.Mathlib.Omega.{arith}
-use lib.ListN.{length, take, drop, get_or, set, length-set}
-use lib.Seq.{paste, paste-zero, paste-suc, take-length}
-use Rattle.writers.specs.Buffer.{put}
+use mathlib.Core.Path.{◌≡◌}
+use lib.ListN.{length}
+use Rattle.std.proofs.lemmas.List.{take_more, take_all}
+use Rattle.writers.proofs.Put.{◌▸◌, wrote_none, wrote_one}
 use Rattle.writers.proofs.put_bytes.Goals as goal
 
--- all of src pasted is src put
-whole : (out : List ℕ) (at : ℕ) (src : List ℕ) → paste out at src (length src) ≡ put out at src
-unfolding put
-whole out at src = ap (λ (l : List ℕ). take at out ++ l ++ drop (at + length src) out) (take-length src)
-
 pub loop-k-init : goal.loop-k-init
-loop-k-init c = (omega arith, paste-zero c.args.out.now c.args.at c.args.src.now, refl)
+loop-k-init c = rw add-zero (wrote_none c.args.out.now c.args.at (omega arith))
 
 pub loop-k-preserved : goal.loop-k-preserved
 loop-k-preserved c =
-    let a = c.args in (
-      omega arith,
-      ap (λ (o : List ℕ). set o (a.at + c.loop-k.k) (get_or a.src.now c.loop-k.k 0)) c.loop-k.invariant.1
-          ∙ paste-suc a.out.now a.at a.src.now c.loop-k.k 0 (omega arith) c.loop-k-test.true
-          ∙ ap (paste a.out.now a.at a.src.now) (sym (add-one c.loop-k.k)),
-      length-set c.loop-k.out (a.at + c.loop-k.k) (get_or a.src.now c.loop-k.k 0) ∙ c.loop-k.invariant.2,
-    )
-
-pub shape_of-out : goal.shape_of-out
-shape_of-out c = c.loop-k.invariant.2
+    let at = c.args.at in
+    let k = c.loop-k.k in
+    let next : at + (k + 1) ≡ at + k + 1 = omega arith in
+    rw (take_more c.args.src.now k 0 c.loop-k-test.true, next) (c.loop-k.invariant ▸ wrote_one c.loop-k.out (at + k) _ (omega arith))
 
 pub returns : goal.returns
 returns c =
-    let a = c.args in
-    let e : c.loop-k.k ≡ length a.src.now = omega arith in
-    record {
-      bytes = c.loop-k.invariant.1 ∙ ap (paste a.out.now a.at a.src.now) e ∙ whole a.out.now a.at a.src.now;
-      moved = omega arith;
-      room = omega arith;
-    }
+    let whole : c.loop-k.k ≡ length c.args.src.now = omega arith in
+    rw (← whole, ← take_all c.loop-k.k c.args.src.now (omega arith)) c.loop-k.invariant
