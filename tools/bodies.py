@@ -104,8 +104,11 @@ class Body:
     def headed(self, at, scope):
         """if, while, for and match: the place behind the head and its block"""
         file, word = self.file, self.file.word(at)
-        open_ = file.find(("{",), at, len(file.tokens))
+        open_ = file.find(("{", ")"), at, len(file.tokens))
         first, inner = at + 1, dict(scope)
+        if file.word(open_) == ")":  # what a pattern of `matches!` asks beside: it has no block
+            self.conditions.append(Condition(word, first, open_))
+            return first
         if file.word(first) == "let" or word == "for":
             mark = file.find(("=", "in"), first, open_)
             self.types.update(range(first, mark))

@@ -27,9 +27,19 @@ pub enum Kind {
     Recognizer,
 }
 
+// How many causes SPEAK-COMPLETE has, 000 to 007, and RECOGNITION-COMPLETE, 000 to 015.
+pub const SYNTHESIZER_CAUSES: u32 = 8;
+
+pub const RECOGNIZER_CAUSES: u32 = 16;
+
 // The recognizer's cause 011: its request ended with the one before it.
 // A cause is a number: C hands it in, and each kind of channel has names of its own for it.
 pub const CANCELLED: u32 = 11;
+
+// How many bytes the names of a kind's causes have together.
+pub const SYNTHESIZER_BYTES: usize = 92;
+
+pub const RECOGNIZER_BYTES: usize = 247;
 
 impl Status {
     pub const SUCCESS: Status = Status { code: 200 };
@@ -104,13 +114,13 @@ impl Status {
     }
 }
 
-// How many causes a kind has: SPEAK-COMPLETE 000 to 007, and RECOGNITION-COMPLETE 000 to 015.
+// How many causes a kind has.
 pub fn cause_count(kind: Kind) -> u32
     ensures { result ≡ length (cause_names kind) }
 {
     match kind {
-        Kind::Synthesizer => 8,
-        Kind::Recognizer => 16,
+        Kind::Synthesizer => SYNTHESIZER_CAUSES,
+        Kind::Recognizer => RECOGNIZER_CAUSES,
     }
 }
 

@@ -126,10 +126,13 @@ pub fn kept(v: &[u8]) -> Name
     ensures value_2 { 44 < length v.now → result ≡ kept_name [] }
 {
     let size = v.len();
-    let mut bytes = [0; LONGEST];
     if LONGEST < size {
-        return Name { bytes, size: 0 };
+        return Name {
+            bytes: [0; LONGEST],
+            size: 0,
+        };
     }
+    let mut bytes = [0; LONGEST];
     bytes[..size].copy_from_slice(v);
     Name { bytes, size }
 }

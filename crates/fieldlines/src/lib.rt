@@ -83,7 +83,7 @@ fn ends(f: &[u8], at: usize) -> bool
     matches!(&f[at..], [b'\r', b'\n', ..]) && !goes_on(f, at)
 }
 
-// The end of the value bytes and folds at `at`.
+// The end of the value bytes and folds at `at`. A `while`, for it goes on by what was found and not by one.
 fn folds_end(f: &[u8], class: &[u8; 256], at: usize) -> usize
     requires { at ≤ length f.now }
     ensures { (at ≤ result) × (result ≤ length f.now)

@@ -51,7 +51,7 @@ module _ (s : List ℕ) where
   abbrev from : ℕ → Reader Opening → Result Front Misread
   from at q = front_of (after at (q (drop at s)))
 
-  by_text : (at : ℕ) (t : List ℕ) (q : Reader Opening) → from at (text t >> q) ≡ onward (text_here at t) (λ k. from k q)
+  pub by_text : (at : ℕ) (t : List ℕ) (q : Reader Opening) → from at (text t >> q) ≡ onward (text_here at t) (λ k. from k q)
   by_text at t q = go (text t (drop at s))
     where
       go : (r : Read (Unit {0}))
@@ -61,7 +61,7 @@ module _ (s : List ℕ) where
       go (got u n) =
           ap front_of (after_after at n (q (drop n (drop at s))) ∙ ap (λ l. after (at + n) (q l)) (drop-drop n at s))
 
-  by_number : (at max : ℕ) (q : ℕ → Reader Opening)
+  pub by_number : (at max : ℕ) (q : ℕ → Reader Opening)
       → from at (number (one_to19 max) >>= q) ≡ onward (number_here at max) (λ n. from n.next (q n.value))
   by_number at max q = go (number (one_to19 max) (drop at s))
     where

@@ -1,7 +1,7 @@
 -- The number that a text states, by the digits at its front.
 -- Assumes nothing.
 use mathlib.Core.Path.{◌≡◌, refl, sym, ap, ◌∙◌}
-use mathlib.Core.Bool.{Bool, true, false}
+use mathlib.Core.Bool.{Bool, true, false, not}
 use mathlib.Core.List.{List}
 use Prim.Native.Nat.{ℕ}
 use lib.Dec.{eqb, lit≤}
@@ -23,12 +23,15 @@ module _ (v : List ℕ) (d : Digits) (e : d ≡ digits_at 19 v) where
   pub stated_none : d.count ≡ 0 → None ≡ stated_of v
   stated_none z = sym (ap (number (number_of v)) (without 19 (lit≤ tt) v d e z))
 
-  pub stated_whole : (d.count ≡ 0 → ⊥) → then_some (eqb d.count (length v)) d.value ≡ stated_of v
-  stated_whole came = go (eqb d.count (length v)) refl
+  pub stated_part : (d.count ≡ length v → ⊥) → None ≡ stated_of v
+  stated_part part = sym (ap (number (number_of v)) (in_part 19 (lit≤ tt) v d e part))
+
+  pub stated_whole : d.count ≡ length v → then_some (not (eqb d.count 0)) d.value ≡ stated_of v
+  stated_whole whole = go (eqb d.count 0) refl
     where
-      go : (b : Bool) → eqb d.count (length v) ≡ b → then_some b d.value ≡ stated_of v
-      go true h =
-          let whole = eqb-true d.count (length v) h in
+      go : (b : Bool) → eqb d.count 0 ≡ b → then_some (not b) d.value ≡ stated_of v
+      go true h = stated_none (eqb-true d.count 0 h)
+      go false h =
+          let came = eqb-false d.count 0 h in
           ap Some (value_whole 19 (lit≤ tt) v d e came whole)
           ∙ sym (ap (number (number_of v)) (number_whole 19 (lit≤ tt) v d e came whole))
-      go false h = sym (ap (number (number_of v)) (in_part 19 (lit≤ tt) v d e (eqb-false d.count (length v) h)))

@@ -32,7 +32,7 @@ pub fn number(v: &[u8]) -> Option<u64>
     ensures { result ≡ stated_of v.now }
 {
     let d = digits::digits_at(v, 0, 19);
-    (d.count != 0 && d.count == v.len()).then_some(d.value)
+    (d.count == v.len() && d.count != 0).then_some(d.value)
 }
 
 // Content-Length, whose value is at `p` where its bit is set, agrees with the `left` bytes of the body.

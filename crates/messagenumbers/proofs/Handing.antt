@@ -19,7 +19,7 @@ use Rattle.header.proofs.Places.{numbers_length, kept_length, kept_all}
 use Rattle.messagenumbers.specs.Layout.{handed, fields_numbers}
 
 -- the answer at the front
-fits : (answer out : List ℕ) → length answer ≤ length out
+pub fits : (answer out : List ℕ) → length answer ≤ length out
     → handed answer out ≡ record { number = 0; out = answer ++ drop (length answer) out }
 fits answer out h = rw (le-ltb (length out) (length answer) h, handed)
 

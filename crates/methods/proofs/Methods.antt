@@ -1,7 +1,7 @@
 -- What judgements 6 to 11 come to for each method but SPEAK and RECOGNIZE, one law for each way out. Assumes nothing.
 use Prim.Native.Nat.{ℕ}
 use mathlib.Core.Path.{◌≡◌, refl, sym, ap, ◌∙◌}
-use mathlib.Core.Bool.{true, false, false≢true}
+use mathlib.Core.Bool.{Bool, true, false, not, false≢true}
 use mathlib.Core.Option.{Option}
 use mathlib.Core.List.{List, [], ◌∷◌}
 use Rattle.message.specs.Message.{Fields}
@@ -23,6 +23,11 @@ use Rattle.values.specs.Steps.{meets}
 use Rattle.request.specs.Telling.{Tells, value_by}
 use Rattle.request.proofs.Telling.{ignores}
 use Rattle.outcomes.specs.Outcomes.{asked}
+
+-- past judgement 8, of a method that needs something outstanding
+pub busy_of : (b : Bool) → not (not b) ≡ true → b ≡ true
+busy_of true e = refl
+busy_of false e = absurd (false≢true e)
 
 module _ (v : View) (major minor id : ℕ) (fs : Fields (List ℕ)) where
   -- STOP

@@ -9,7 +9,6 @@ ghost use Rattle.message.specs.declared.Known.TheVariants.{ActiveRequestIdList};
 ghost use Rattle.synth.specs.Settings.{is_edition_of};
 ghost use Rattle.synth.specs.Request.{is_params, acting, ignores_any};
 ghost use Rattle.synth.specs.Judgement.{is_valid};
-ghost use Rattle.synth.specs.Channel.{is_busy};
 ghost use Rattle.synth.specs.declared.Method.{Method};
 ghost use Rattle.queue.specs.Queue.{list_of};
 ghost use Rattle.request.specs.Telling.{Tells};
@@ -86,24 +85,33 @@ fn is_valid(m: synth::Method, busy: bool) -> bool
     )
 }
 
-// PAUSE, CONTROL and RESUME past judgement 8.
+// PAUSE, CONTROL and RESUME: judgement 8.
 // A function for each method: each promises what `Acts` says of its own method.
 fn pause(state: synth::State, q: queue::Queue, id: u32, ignored: bool) -> outcomes::Outcome
-    ensures { is_busy state ≡ true → Acts state q Method.Pause id (λ r. ignored ≡ ignores_any r) result }
+    ensures { Acts state q Method.Pause id (λ r. ignored ≡ ignores_any r) result }
 {
+    if !is_valid(synth::Method::Pause, queue::is_busy(state)) {
+        return outcomes::failed(state, q, id, answer::Status::NOT_VALID_IN_STATE);
+    }
     outcomes::succeeded(id, ignored, queue::list_active(q), synth::State::Paused, q)
 }
 
 fn control(state: synth::State, q: queue::Queue, id: u32, ignored: bool) -> outcomes::Outcome
-    ensures { is_busy state ≡ true → Acts state q Method.Control id (λ r. ignored ≡ ignores_any r) result }
+    ensures { Acts state q Method.Control id (λ r. ignored ≡ ignores_any r) result }
 {
+    if !is_valid(synth::Method::Control, queue::is_busy(state)) {
+        return outcomes::failed(state, q, id, answer::Status::NOT_VALID_IN_STATE);
+    }
     outcomes::succeeded(id, ignored, queue::list_active(q), state, q)
 }
 
 // From speaking there is no change and no list.
 fn resume(state: synth::State, q: queue::Queue, id: u32, ignored: bool) -> outcomes::Outcome
-    ensures { is_busy state ≡ true → Acts state q Method.Resume id (λ r. ignored ≡ ignores_any r) result }
+    ensures { Acts state q Method.Resume id (λ r. ignored ≡ ignores_any r) result }
 {
+    if !is_valid(synth::Method::Resume, queue::is_busy(state)) {
+        return outcomes::failed(state, q, id, answer::Status::NOT_VALID_IN_STATE);
+    }
     match state {
         synth::State::Paused => outcomes::succeeded(
             id,
@@ -116,11 +124,13 @@ fn resume(state: synth::State, q: queue::Queue, id: u32, ignored: bool) -> outco
     }
 }
 
-// START-INPUT-TIMERS past judgement 8: no change and no list.
+// START-INPUT-TIMERS: judgement 8; no change and no list.
 fn start_timers(state: synth::State, q: queue::Queue, id: u32, ignored: bool) -> outcomes::Outcome
-    ensures { is_busy state ≡ true
-        → Acts state q Method.StartInputTimers id (λ r. ignored ≡ ignores_any r) result }
+    ensures { Acts state q Method.StartInputTimers id (λ r. ignored ≡ ignores_any r) result }
 {
+    if !is_valid(synth::Method::StartInputTimers, queue::is_busy(state)) {
+        return outcomes::failed(state, q, id, answer::Status::NOT_VALID_IN_STATE);
+    }
     outcomes::succeeded(id, ignored, queue::list_none(), state, q)
 }
 
@@ -141,9 +151,6 @@ pub fn act(
     ensures { length (list_of q) ≤ 16 → is_edition_of kind set ≡ true → is_params m ≡ false
         → ActsOn kind set state q m id (λ r. Tells false f.now h r.fields) result }
 {
-    if !is_valid(m, queue::is_busy(state)) {
-        return outcomes::failed(state, q, id, answer::Status::NOT_VALID_IN_STATE);
-    }
     let ignored = values::meets(h.mask, names::IGNORED_ELSEWHERE);
     match m {
         synth::Method::Speak => speak::speak(kind, state, q, set, f, h, id),

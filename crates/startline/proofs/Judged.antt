@@ -110,7 +110,7 @@ id_left s rule at (x ∷ w) r e f =
     go true = ap (ended (rule (number_of (x ∷ w))) end) (sym (at_rest s at (x ∷ w) r e))
     go false = refl
 
-id_told : (s : List ℕ) (rule : ℕ → Rule) (at : ℕ)
+pub id_told : (s : List ℕ) (rule : ℕ → Rule) (at : ℕ)
     → told (word is_request_id (λ a. rule (number_of a))) at (said (drop at s)) ≡ id_by s rule (id_at at (drop at s))
 unfolding id_at
 id_told s rule at =

@@ -1,2 +1,2 @@
 mod Indexing
-mod Judging
+pub mod Judging

@@ -5,6 +5,7 @@ use Rattle.std.proofs.Common.{List, [], ◌∷◌, length, take, drop}
 use Rattle.framing.specs.Framing.{framing}
 use Rattle.framing.specs.declared.Framed.{Framed}
 use Rattle.framing.specs.declared.NoFrame.{NoFrame}
+use Rattle.framing.specs.declared.NoFrame.TheVariants.{More, NoMessage, TooLong, TooShort}
 use Rattle.traces.specs.Traces.{ahead, frames_on, frames_in}
 use Rattle.traces.proofs.Walking.{frames_so, frame_takes, frames_opened}
 
@@ -30,7 +31,13 @@ front_frame l f e =
 -- no frame at the front: nothing is left, or what is left is not walked
 pub no_front : (l : List ℕ) (why : NoFrame) → framing l ≡ Err why → (l ≡ []) ⊎ (frames_in l ≡ none)
 no_front [] why e = inl refl
-no_front (x ∷ l) why e = inr (frames_opened x l ∙ ap (λ r. frames_on (x ∷ l) r frames_in) e)
+no_front (x ∷ l) why e = inr (frames_opened x l ∙ ap (λ r. frames_on (x ∷ l) r frames_in) e ∙ unframed why)
+  where
+    unframed : (why : NoFrame) → frames_on (x ∷ l) (Err why) frames_in ≡ none
+    unframed More = refl
+    unframed NoMessage = refl
+    unframed TooLong = refl
+    unframed TooShort = refl
 
 -- what is walked to nothing is nothing
 pub none_left : (l : List ℕ) → frames_in l ≡ some [] → l ≡ []

@@ -11,6 +11,7 @@ use lib.Seq.{take-append_seam, drop-append_seam, length-take-le}
 use Rattle.lists.specs.Lists.{is_empty, All}
 use Rattle.framing.specs.Framing.{Framing, Frame, framing, refusal}
 use Rattle.framing.specs.declared.Framed.{Framed}
+use Rattle.framing.specs.declared.NoFrame.TheVariants.{More, NoMessage, TooLong, TooShort}
 use Rattle.std.specs.Prelude.{Ok, Err}
 use Rattle.framing.proofs.Frames.{frame_fits}
 use Rattle.framing.proofs.Theorems.FrameAlone.{frame_alone, more_bytes}
@@ -83,7 +84,10 @@ module _ (s : List ℕ) (on : List ℕ → Option (List (List ℕ)))
       })
 
   frames_walked : (x : Framing) → framing s ≡ x → (ms : List (List ℕ)) → frames_on s x on ≡ some ms → Walked s ms
-  frames_walked (Err why) f ms e = none_some e
+  frames_walked (Err More) f ms e = none_some e
+  frames_walked (Err NoMessage) f ms e = none_some e
+  frames_walked (Err TooLong) f ms e = none_some e
+  frames_walked (Err TooShort) f ms e = none_some e
   frames_walked (Ok x) f ms e = ahead_walked x.major x.minor x.opening x.length f (on (drop x.length s)) refl ms e
 
 walk_so : (fuel : ℕ) (s : List ℕ) (ms : List (List ℕ)) → walk fuel s ≡ some ms → Walked s ms

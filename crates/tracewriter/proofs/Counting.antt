@@ -2,14 +2,15 @@
 -- Assumes nothing.
 use mathlib.Core.Option.{Option, none, some}
 use Rattle.std.proofs.Common.{ℕ, suc, ◌+◌, ◌*◌, ◌≤◌, ◌≡◌, ◌⊎◌, min, refl, sym, ap, ◌∙◌, inl, inr, arith, Ok, Err}
+use mathlib.Core.Bool.{Bool, ◌&&◌, ◌||◌, and-false, false≢true}
 use Rattle.std.proofs.Common.{true, false, eqb, List, [], ◌∷◌, length, take, drop}
 use Rattle.std.proofs.lemmas.Grind.{common_steps}
-use borrow.Author.Tests.{ne_eqb}
+use borrow.Author.Tests.{eq-eqb, ne_eqb}
 use Rattle.framing.specs.Framing.{framing}
 use Rattle.framing.specs.declared.Framed.{Framed}
 use Rattle.framing.specs.declared.NoFrame.{NoFrame}
 use Rattle.framing.proofs.Frames.{frame_fits}
-use Rattle.traces.specs.Traces.{ahead, frames_in, so_many, can_be_left, is_one}
+use Rattle.traces.specs.Traces.{ahead, fits, frames_in, so_many, can_be_left, is_one}
 use Rattle.traces.proofs.Walking.{frames_empty}
 use Rattle.traces.proofs.Unfinished.{is_one_lem, can_holds}
 use Rattle.traces.proofs.Fronts.{front_frame, no_front, none_left}
@@ -58,6 +59,18 @@ module _ (out : List ℕ) (used count : ℕ) where
           → (used ≤ 65536) × (count ≤ 16384)
       short (inl (a, b)) = (omega arith, omega arith)
       short (inr h) = (omega arith, omega arith)
+
+  -- with no byte used, no message is left
+  pub left_nothing : used ≡ 0 → eqb count 0 ≡ can_be_left out used count
+  unfolding can_be_left
+  left_nothing e = sym (rw (e, frames_empty, can_be_left) (go (eqb count 0) refl))
+    where
+      go : (b : Bool) → eqb count 0 ≡ b → eqb count 0 || (fits (length out) 0 count && eqb 0 count) ≡ eqb count 0
+      go true b = rw b
+      go false b =
+          let n : eqb 0 count ≡ false =
+          ne_eqb 0 count (λ z. false≢true (sym b ∙ eq-eqb count 0 (sym z))) in
+          rw (b, n, and-false (fits (length out) 0 count))
 
 -- how large the sums can get that recording makes
 pub ruleset sizes = (left_short, one_most)

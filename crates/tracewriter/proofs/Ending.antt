@@ -10,6 +10,7 @@ use Rattle.writers.specs.Buffer.{put, Wrote}
 use Rattle.writers.proofs.Put.{◌▸◌, wrote_none, kept}
 use Rattle.framing.specs.Framing.{Framing, framing}
 use Rattle.std.proofs.lemmas.Slice.{between_is}
+use Rattle.std.proofs.lemmas.List.{nil_from_length}
 use Rattle.framing.specs.declared.Framed.{Framed}
 use Rattle.framing.specs.declared.NoFrame.{NoFrame}
 use Rattle.traces.specs.Traces.{four, index, ahead, frames_in, so_many, messages_in}
@@ -70,19 +71,25 @@ module _ {before : List ℕ} {used i at : ℕ} {out : List ℕ} (x : Indexing be
   pub looks : {r : Framing} → r ≡ framing (take (used - i) (drop i out)) → framing l ≡ r
   looks e = ap framing (ap (drop i) (sym (front_stays x.wrote)) ∙ sym (between_is out i used)) ∙ sym e
 
+  index_all : l ≡ [] → Wrote before used (index 0 (messages_in (frames_in (take used before)))) out at
+  index_all z =
+      let e : some [] ≡ some x.rest = sym frames_empty ∙ ap frames_in (sym z) ∙ x.walked in
+      let r : [] ≡ x.rest = cc in
+      let d : index 0 (messages_in (frames_in (take used before))) ≡ x.done =
+      x.entries ∙ ap (λ l. x.done ++ index i l) (sym r) ∙ append-nil x.done in
+      subst (λ l. Wrote before used l out at) (sym d) x.wrote
+
   pub index_end : (why : NoFrame) → framing l ≡ Err why
       → Wrote before used (index 0 (messages_in (frames_in (take used before)))) out at
   index_end why e = go (no_front l why e)
     where
       go : (l ≡ []) ⊎ (frames_in l ≡ none)
           → Wrote before used (index 0 (messages_in (frames_in (take used before)))) out at
-      go (inl z) =
-          let e : some [] ≡ some x.rest = sym frames_empty ∙ ap frames_in (sym z) ∙ x.walked in
-          let r : [] ≡ x.rest = cc in
-          let d : index 0 (messages_in (frames_in (take used before))) ≡ x.done =
-          x.entries ∙ ap (λ l. x.done ++ index i l) (sym r) ∙ append-nil x.done in
-          subst (λ l. Wrote before used l out at) (sym d) x.wrote
+      go (inl z) = index_all z
       go (inr z) = none_some (sym z ∙ x.walked)
+
+  pub index_done : used ≤ i → Wrote before used (index 0 (messages_in (frames_in (take used before)))) out at
+  index_done e = index_all (nil_from_length l (omega (arith, e, length-drop i (take used before), front)))
 
   module _ (f : Framed) (is : framing l ≡ Ok f) where
     abbrev n : ℕ

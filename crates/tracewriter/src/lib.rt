@@ -45,7 +45,10 @@ fn so_many(s: &[u8], count: usize) -> bool
 fn can_be_left(out: &[u8], used: usize, count: usize) -> bool
     ensures { result ≡ can_be_left out.now used count }
 {
-    (used == 0 && count == 0) || (fits(out.len(), used, count) && so_many(&out[..used], count))
+    if used == 0 { // no frame is empty
+        return count == 0;
+    }
+    fits(out.len(), used, count) && so_many(&out[..used], count)
 }
 
 // Records one message behind the first `used` bytes of `out`, which are `count` messages. Any numbers may be given.
@@ -86,6 +89,7 @@ fn put_four(out: &mut [u8], at: usize, n: usize) -> usize
 }
 
 // Writes an entry for each of the `count` messages in the first `used` bytes, behind them; returns the place behind.
+// A `while`, for it goes on by what was read and not by one; no opening is sought past the last message.
 fn put_index(out: &mut [u8], used: usize, count: usize) -> usize
     requires out_value { so_many count (frames_in (take used out.old)) ≡ true }
     requires count_in_bounds { used + 4 * count + 12 ≤ length out.old }
@@ -94,7 +98,10 @@ fn put_index(out: &mut [u8], used: usize, count: usize) -> usize
 {
     let mut i = 0;
     let mut at = used;
-    while let Ok(frame) = framing::frame(&out[i..used]) {
+    while i < used {
+        let Ok(frame) = framing::frame(&out[i..used]) else {
+            return at;
+        };
         at = put_four(out, at, i);
         i += frame.length;
     }

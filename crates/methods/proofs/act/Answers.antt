@@ -1,15 +1,15 @@
 -- `methods::act` goes by the method. Assumes nothing.
 use Prim.Native.Nat.{ℕ}
 use mathlib.Core.Path.{◌≡◌, refl, sym, ap, subst, ◌∙◌}
-use mathlib.Core.Bool.{Bool, true, false, not, false≢true}
+use mathlib.Core.Bool.{false, false≢true}
 use mathlib.Core.Logic.{⊎_elim}
 use mathlib.Core.List.{List, map}
 use Rattle.lists.specs.Lists.{bit}
 use Rattle.message.specs.Message.{Fields}
 use Rattle.message.specs.Known.{index_of}
-use Rattle.synth.specs.Channel.{View, with_queue, is_busy}
+use Rattle.synth.specs.Channel.{View, with_queue}
 use Rattle.synth.specs.Request.{Request, is_params, ignored, ignores_any}
-use Rattle.synth.specs.Judgement.{is_valid, late}
+use Rattle.synth.specs.Judgement.{late}
 use Rattle.synth.specs.States.{after_late}
 use Rattle.synth.specs.declared.Method.{Method}
 use Rattle.synth.specs.declared.State.{State}
@@ -21,7 +21,7 @@ use Rattle.request.proofs.Telling.{each, ignores}
 use Rattle.outcomes.specs.Outcomes.{asked, Makes}
 use Rattle.outcomes.specs.declared.Outcome.{Outcome}
 use Rattle.outcomes.proofs.Making.{makes_failed}
-use Rattle.methods.proofs.Methods.{not_valid, unknown_fails}
+use Rattle.methods.proofs.Methods.{unknown_fails}
 use Rattle.methods.proofs.act.Goals as goal
 use Rattle.methods.proofs.act.Goals.{After-meets-ignored}
 
@@ -38,26 +38,6 @@ asked_ignored : (c : After-meets-ignored) (v : View) (major minor : ℕ) (fs : F
 asked_ignored c v major minor fs told m e =
     let a = c.args in
     c.meets-ignored.ensures ∙ ignores false a.f.now a.h fs told major minor a.id m 3996 e
-
--- judgement 8
-busy_of : (b : Bool) → not (not b) ≡ true → b ≡ true
-busy_of true e = refl
-busy_of false e = absurd (false≢true e)
-
--- past it, by a method that needs something outstanding
-busy : (c : After-meets-ignored) (m : Method) → ((b : Bool) → not (not b) ≡ is_valid m b) → c.args.m ≡ m
-    → is_busy c.args.state ≡ true
-busy c m needs e =
-    let b = is_busy c.args.state in
-    busy_of b (needs b ∙ ap (λ m. is_valid m b) (sym e) ∙ sym (ap (is_valid c.args.m) c.is_busy.ensures)
-    ∙ sym c.is_valid.ensures ∙ c.if-not-is_valid.false)
-
-pub returns-then-not-is_valid : goal.returns-then-not-is_valid
-returns-then-not-is_valid c = λ few fit plain v of moment major minor fs told.
-    let a = c.args in
-    makes_failed v (asked major minor a.m a.id fs) a.state a.q 402 refl c.failed.ensures
-    (not_valid (with_queue a.state (list_of a.q) v) major minor a.id fs a.m
-    (sym (c.is_valid.ensures ∙ ap (is_valid a.m) c.is_busy.ensures) ∙ c.if-not-is_valid.true))
 
 pub returns-in-Speak : goal.returns-in-Speak
 returns-in-Speak c = λ few fit plain v of moment major minor fs.
@@ -90,7 +70,7 @@ returns-in-Pause c = λ few fit plain v of moment major minor fs.
     let a = c.args in
     let at = (goal.at.returns-in-Pause c).After-meets-ignored in
     subst (Does a.state a.q v a.f.now a.h c.pause.result major minor a.id fs) (sym c.in-Pause.is)
-    (λ told. c.pause.ensures (busy at Method.Pause (λ b. refl) c.in-Pause.is) v major minor fs
+    (λ told. c.pause.ensures v major minor fs
     (asked_ignored at v major minor fs told Method.Pause refl))
 
 pub returns-in-Resume : goal.returns-in-Resume
@@ -98,7 +78,7 @@ returns-in-Resume c = λ few fit plain v of moment major minor fs.
     let a = c.args in
     let at = (goal.at.returns-in-Resume c).After-meets-ignored in
     subst (Does a.state a.q v a.f.now a.h c.resume.result major minor a.id fs) (sym c.in-Resume.is)
-    (λ told. c.resume.ensures (busy at Method.Resume (λ b. refl) c.in-Resume.is) v major minor fs
+    (λ told. c.resume.ensures v major minor fs
     (asked_ignored at v major minor fs told Method.Resume refl))
 
 pub returns-in-Control : goal.returns-in-Control
@@ -106,7 +86,7 @@ returns-in-Control c = λ few fit plain v of moment major minor fs.
     let a = c.args in
     let at = (goal.at.returns-in-Control c).After-meets-ignored in
     subst (Does a.state a.q v a.f.now a.h c.control.result major minor a.id fs) (sym c.in-Control.is)
-    (λ told. c.control.ensures (busy at Method.Control (λ b. refl) c.in-Control.is) v major minor fs
+    (λ told. c.control.ensures v major minor fs
     (asked_ignored at v major minor fs told Method.Control refl))
 
 pub returns-in-StartInputTimers : goal.returns-in-StartInputTimers
@@ -114,7 +94,7 @@ returns-in-StartInputTimers c = λ few fit plain v of moment major minor fs.
     let a = c.args in
     let at = (goal.at.returns-in-StartInputTimers c).After-meets-ignored in
     subst (Does a.state a.q v a.f.now a.h c.start_timers.result major minor a.id fs) (sym c.in-StartInputTimers.is)
-    (λ told. c.start_timers.ensures (busy at Method.StartInputTimers (λ b. refl) c.in-StartInputTimers.is) v major minor fs
+    (λ told. c.start_timers.ensures v major minor fs
     (asked_ignored at v major minor fs told Method.StartInputTimers refl))
 
 pub returns-in-Unknown : goal.returns-in-Unknown
@@ -122,9 +102,9 @@ returns-in-Unknown c = λ few fit plain v of moment major minor fs told.
     let a = c.args in
     let w = with_queue a.state (list_of a.q) v in
     let D : Method → Type 0 = λ m. let r : Request = asked major minor m a.id fs in
-    Makes w c.failed-in-Unknown.result (after_late (late w r) w r) in
+    Makes w c.failed.result (after_late (late w r) w r) in
     ⊎_elim {C = D a.m} (λ e. subst D (sym e)
     (makes_failed v (asked major minor Method.Unknown a.id fs) a.state a.q 401 refl
-    c.failed-in-Unknown.ensures (unknown_fails w major minor a.id fs)))
+    c.failed.ensures (unknown_fails w major minor a.id fs)))
     (⊎_elim {C = D a.m} (λ e. absurd (false≢true (sym plain ∙ ap is_params e)))
     (λ e. absurd (false≢true (sym plain ∙ ap is_params e)))) c.in-Unknown.is
