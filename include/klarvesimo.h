@@ -50,7 +50,7 @@
  *  - arrays of uint64_t aligned to 8 bytes, as C compilers do. Bytes may begin anywhere: on ARM they are also loaded by
  *    words that are not aligned, so the processor must take that: as a Cortex-M4 does unless CCR.UNALIGN_TRP is set,
  *    and a Cortex-A in normal memory unless SCTLR.A is set;
- *  - at most 6 KB of stack. No call takes more of it, whatever is lent, than 5,760 bytes on x86-64, 5,840 on aarch64,
+ *  - at most 6 KB of stack. No call takes more of it, whatever is lent, than 5,792 bytes on x86-64, 5,840 on aarch64,
  *    4,080 on arm, 4,048 on thumbv7em; what the functions named above take for themselves comes on top of that;
  *  - on x86-64 the red zone of that ABI: up to 128 bytes below the stack pointer are in use, so what interrupts a call
  *    and runs on its stack must leave them as they are. There is none on ARM;

@@ -1,8 +1,8 @@
 -- How reading goes at the C face, with a frame and with none. Assumes nothing.
 use mathlib.Core.Path.{◌≡◌, refl, sym, ap, ◌∙◌}
-use mathlib.Core.List.{List, ◌++◌}
+use mathlib.Core.List.{List, [], ◌∷◌, ◌++◌}
 use Prim.Native.Nat.{ℕ}
-use lib.ListN.{length, take}
+use lib.ListN.{length, take, set}
 use lib.Seq.{length-take-le}
 use Rattle.std.specs.Prelude.{Ok, Err}
 use Rattle.framing.specs.Framing.{framing, refusal}
@@ -15,6 +15,11 @@ use Rattle.message.specs.Reading.{asks_params, fields_from, read_from, read_fram
 use Rattle.messagenumbers.specs.Layout.{handed, start_numbers, fields_numbers}
 use Rattle.firmware.specs.Face.{consuming, read_as, read_face}
 use Rattle.firmware.specs.Steps.{frame_as}
+
+-- a count that is 0 first, and then told
+pub set_again : (l : List ℕ) (x y : ℕ) → set (set l 0 x) 0 y ≡ set l 0 y
+set_again [] x y = refl
+set_again (z ∷ l) x y = refl
 
 module _ (s out : List ℕ) where
   -- refusals 1 to 4

@@ -23,6 +23,7 @@ pub fn klarvesimo_read(s: &[u8], out: &mut [u64], consumed: &mut [u64; 1]) -> u3
     ensures { record { number = result; consumed = consumed.new; out = out.new }
         ≡ called consumed.old (read_face s.now out.old) }
 {
+    consumed[0] = 0;
     let read = match framing::frame(s) {
         Ok(frame) => read_frame(&s[..frame.length], frame, out),
         Err(why) => Read {

@@ -3,9 +3,9 @@ use Prim.Native.Nat.{ℕ, ◌≤◌, ◌<◌}
 use mathlib.Core.Path.{◌≡◌, refl, sym, ap, ◌∙◌}
 use mathlib.Core.Bool.{true, false}
 use mathlib.Core.Option.{Option, none, some}
-use mathlib.Core.List.{List, ◌++◌}
+use mathlib.Core.List.{List, [], ◌∷◌, ◌++◌}
 use native.Mathlib.Omega.{arith}
-use lib.ListN.{length, take, drop}
+use lib.ListN.{length, take, drop, set}
 use borrow.Author.Tests.{lt-ltb, le-ltb}
 use Rattle.synth.specs.Channel.{View, held, sound}
 use Rattle.channel.specs.Channel.{view}
@@ -15,6 +15,11 @@ use Rattle.channelnumbers.specs.Numbers.{view_of, is_sound}
 use Rattle.loading.specs.Loading.{Loads}
 use Rattle.loading.specs.declared.Loaded.{Loaded}
 use Rattle.klarvesimo.specs.Face.{fitting, held_on, held_face}
+
+-- a count that is 0 first, and then told
+pub count_again : (l : List ℕ) (x : ℕ) → set (set l 0 0) 0 x ≡ set l 0 x
+count_again [] x = refl
+count_again (a ∷ l) x = refl
 
 module _ (ws out : List ℕ) (l : Loaded) (is : Loads ws l) where
   abbrev v : View

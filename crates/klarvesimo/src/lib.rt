@@ -8,6 +8,7 @@ ghost use Rattle.calls.specs.Promise.{Promise};
 ghost use Rattle.loading.specs.Loading.{Loads};
 ghost use Rattle.loading.specs.declared.Loaded.{Loaded};
 ghost use Rattle.klarvesimo.specs.Face.{open_face, call_face, counted, reported, back_face, held_face, listing, listed};
+ghost use Rattle.klarvesimo.specs.Steps.{told_of};
 
 use calls::Refusal;
 
@@ -27,11 +28,29 @@ struct Told {
     written: u64,
 }
 
+fn tell(call: Result<calls::Handled, calls::Refused>) -> Told
+    ensures { result ≡ told_of call }
+{
+    match call {
+        Ok(handled) => Told {
+            number: 0,
+            consumed: handled.consumed as u64,
+            written: handled.written as u64,
+        },
+        Err(refused) => Told {
+            number: refused.refusal.number(),
+            consumed: refused.consumed as u64,
+            written: 0,
+        },
+    }
+}
+
 // Saves the channel as a handled call left it; a refused call leaves the numbers as they were. Always inlined: called,
 // it takes 400 bytes of stack more.
 #[inline(always)]
 fn conclude(call: Result<calls::Handled, calls::Refused>, channel: &mut [u64; 89]) -> Told
-    ensures { (l : Loaded) (is : Loads channel.old l) (lent : Lent) (out after : List ℕ)
+    ensures told { result ≡ told_of call }
+    ensures face { (l : Loaded) (is : Loads channel.old l) (lent : Lent) (out after : List ℕ)
         → Promise l.last l.channel is.editions lent out call after
         → record {
           number = result.number;
@@ -42,20 +61,13 @@ fn conclude(call: Result<calls::Handled, calls::Refused>, channel: &mut [u64; 89
         }
         ≡ call_face channel.old lent out }
 {
+    let told = tell(call);
     match call {
         Ok(handled) => {
             channelnumbers::save_after(handled.last, handled.channel, handled.further, channel);
-            Told {
-                number: 0,
-                consumed: handled.consumed as u64,
-                written: handled.written as u64,
-            }
+            told
         }
-        Err(refused) => Told {
-            number: refused.refusal.number(),
-            consumed: refused.consumed as u64,
-            written: 0,
-        },
+        Err(_) => told,
     }
 }
 
@@ -71,10 +83,11 @@ pub fn klarvesimo_handle(
         (call_face channel.old (input s.now) out.old) }
 {
     let l = loading::load(channel);
-    let told = conclude(client::handle(l.last, l.channel, l.set, s, out), channel);
+    let call = client::handle(l.last, l.channel, l.set, s, out);
+    let told = tell(call);
     counts[0] = told.consumed;
     counts[1] = told.written;
-    told.number
+    conclude(call, channel).number
 }
 
 // An engine report: its cause, and the score of what was recognized.
@@ -90,12 +103,9 @@ pub fn klarvesimo_report(
         (call_face channel.old (report_of cause score) out.old) }
 {
     let l = loading::load(channel);
-    let told = conclude(
-        engine::report(l.last, l.channel, cause, score, out),
-        channel,
-    );
-    written[0] = told.written;
-    told.number
+    let call = engine::report(l.last, l.channel, cause, score, out);
+    written[0] = tell(call).written;
+    conclude(call, channel).number
 }
 
 // A going back to an edition of the settings.
@@ -137,14 +147,12 @@ pub fn klarvesimo_held(channel: &[u64; 89], ids: &mut [u64], count: &mut [u64; 1
     ensures { record { number = result; count = count.new; ids = ids.new }
         ≡ listed count.old (held_face channel.now ids.old) }
 {
+    count[0] = 0;
     match list(channel, ids) {
         Ok(held) => {
             count[0] = held as u64;
             0
         }
-        Err(refusal) => {
-            count[0] = 0;
-            refusal.number()
-        }
+        Err(refusal) => refusal.number(),
     }
 }

@@ -1,7 +1,7 @@
 -- `firmware::klarvesimo_read` meets its contract. Assumes nothing.
 use mathlib.Core.Path.{sym, ap, ◌∙◌}
 use Rattle.firmware.specs.Face.{called}
-use Rattle.firmware.proofs.Faces.{size, read_refused, read_whole}
+use Rattle.firmware.proofs.Faces.{size, set_again, read_refused, read_whole}
 use Rattle.firmware.proofs.klarvesimo_read.Goals as goal
 use Rattle.firmware.proofs.klarvesimo_read.Goals.{in-Ok, in-Err}
 
@@ -13,9 +13,9 @@ returns c =
     let a = c.args in
     elim c.match-frame.branch [
       | in-Ok w ↦
-          rw (w.read-is, w.out-is)
+          rw (w.read-is, w.out-is, set_again a.consumed.now 0 w.read_frame-read.result.consumed)
           (ap (called a.consumed.now) (w.read_frame-read.ensures ∙ read_whole a.s.now a.out.now w.in-Ok.frame (sym c.frame.ensures ∙ w.in-Ok.is)))
       | in-Err w ↦
-          rw (w.read-is, w.out-is, w.number.ensures)
+          rw (w.read-is, w.out-is, w.number.ensures, set_again a.consumed.now 0 0)
           (ap (called a.consumed.now) (read_refused a.s.now a.out.now w.in-Err.why (sym c.frame.ensures ∙ w.in-Err.is)))
     ]

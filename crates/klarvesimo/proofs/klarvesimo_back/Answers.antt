@@ -12,4 +12,4 @@ returns c =
     let a = c.args in
     let is = c.load-l.ensures in
     let found = rw c.kind_by.ensures at c.edition_at-found.ensures in
-    ap gone (c.conclude.ensures _ is (back a.number) [] [] (back_promised a.channel.now a.number _ is _ found c.go_back.ensures))
+    ap gone (c.conclude.ensures.face _ is (back a.number) [] [] (back_promised a.channel.now a.number _ is _ found c.go_back.ensures))
