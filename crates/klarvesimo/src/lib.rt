@@ -28,6 +28,7 @@ struct Told {
     written: u64,
 }
 
+// Apart from saving, for the counts are set before the channel is saved.
 fn tell(call: Result<calls::Handled, calls::Refused>) -> Told
     ensures { result ≡ told_of call }
 {
